@@ -1,0 +1,43 @@
+ghost use Rattle.std.specs.Prelude.{◌≡◌, ◌↔◌, IsTrue};
+
+use std::marker::Model;
+
+/// A label or another name. Contracts see it as its bytes.
+#[derive(Drop)]
+pub struct Label {
+    bytes: Vec<u8>,
+}
+
+impl Model for Label {
+    ghost use Rattle.std.specs.Prelude.{List, ℕ};
+    ghost use Rattle.std.specs.Coded.{coded_list, coded_ℕ};
+
+    ghost Value = { List ℕ };
+
+    ghost coded = { coded_list coded_ℕ };
+
+    ghost view = { λ label. label.bytes.items };
+}
+
+impl Label {
+    /// The label with these bytes.
+    pub fn from_bytes(bytes: Vec<u8>) -> Label
+        ensures { result ≡ bytes.items }
+    {
+        Label { bytes }
+    }
+
+    /// Its bytes.
+    pub fn as_bytes(&self) -> &[u8]
+        ensures { result.now ≡ self.now }
+    {
+        self.bytes.as_slice()
+    }
+
+    /// Whether both have the same bytes.
+    pub fn is_same(&self, other: &Label) -> bool
+        ensures { IsTrue result ↔ (self.now ≡ other.now) }
+    {
+        self.as_bytes() == other.as_bytes()
+    }
+}

@@ -1,0 +1,26 @@
+//! What a program is made of: literals, expressions, instructions, bodies, versions and functions, and
+//! the program and the job that they make up. Both the code and the definitions of the language name
+//! these types.
+#![tactic(auto)]
+
+mod body;
+mod expression;
+mod instruction;
+mod job;
+mod label;
+mod list;
+mod literal;
+mod names;
+mod program;
+mod trap;
+
+pub use body::Body;
+pub use expression::{Expr, Simple};
+pub use instruction::{Instr, Line};
+pub use job::Job;
+pub use label::Label;
+pub use list::List;
+pub use literal::{FunId, Literal, Value};
+pub use names::Names;
+pub use program::{Function, Program, Version};
+pub use trap::Trap;

@@ -1,0 +1,17 @@
+/// The number of a function: its place in the program, counted from 0.
+#[derive(Clone, Copy, Debug, PartialEq, Eq)]
+pub struct FunId(pub u32);
+
+/// A value that a text can spell.
+#[derive(Clone, Copy, Debug, PartialEq, Eq)]
+pub enum Literal {
+    Number(i64),
+    Truth(bool),
+    Nil,
+}
+
+/// What an expression evaluates to.
+#[derive(Clone, Copy, Debug, PartialEq, Eq)]
+pub enum Value {
+    Plain(Literal),
+}
