@@ -1,3 +1,4 @@
 pub mod Trap
 pub mod Body
+pub mod Labels
 pub mod Program

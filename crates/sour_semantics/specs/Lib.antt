@@ -1,0 +1,6 @@
+pub mod State
+pub mod Evaluation
+pub mod Text
+pub mod Step
+pub mod Run
+pub mod Block

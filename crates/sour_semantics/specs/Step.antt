@@ -1,0 +1,111 @@
+use Rattle.std.specs.Prelude.{ℕ, ◌+◌, List, [], ◌∷◌, ◌++◌, Option, None, Some, Result, Ok, Err, Bool, length, nat_lt, slice_get, slice_set, if◌then◌else◌}
+use Rattle.sour_syntax.specs.declared.instruction.Instr.{Instr}
+use Rattle.sour_syntax.specs.declared.instruction.Instr.TheVariants.{Print, Return, Stop}
+use Rattle.sour_syntax.specs.declared.instruction.Line.{Line}
+use Rattle.sour_syntax.specs.declared.literal.Value.{Value}
+use Rattle.sour_syntax.specs.declared.program.Function.{Function}
+use Rattle.sour_syntax.specs.declared.program.Version.{Version}
+use Rattle.sour_syntax.specs.declared.trap.Trap.{Trap}
+use Rattle.sour_syntax.specs.declared.trap.Trap.TheVariants.{OutputFull}
+use Rattle.sour_syntax.specs.Labels.{from_label, first_label}
+use Rattle.sour_syntax.specs.Program.{ProgramView}
+use Rattle.sour_semantics.specs.State.{Frame, FrameCode, text, Ending, stopped, returned, trapped, stuck, State}
+use Rattle.sour_semantics.specs.Evaluation.{eval}
+use Rattle.sour_semantics.specs.Text.{value_text}
+
+-- the version that a call enters
+pub data Entry : Type 0 where
+  -- the first that the text gives
+  text_version : Entry
+
+-- what a step may choose: which version a call enters
+pub record Choice : Type 0 where
+  pub entry : Entry
+
+-- the choice of a run that enters text versions alone
+abbrev pub text_choice : Choice
+text_choice = record { entry = text_version }
+
+abbrev pub version_of : Option Function → ℕ → Option Version
+version_of None version = None
+version_of (Some function) version = slice_get function.versions version
+
+abbrev pub lines_of_version : Option Version → List Line
+lines_of_version None = []
+lines_of_version (Some version) = version.body.lines
+
+-- the lines of the code that a frame runs
+abbrev pub lines_of : ProgramView → FrameCode → List Line
+lines_of program (text function version) =
+    lines_of_version (version_of (slice_get program.functions function.0) version)
+
+-- the run ends
+abbrev pub ends : Ending → State → State
+ends ending s = record s { ending = Some ending }
+
+-- a turn is taken
+abbrev pub takes_turn : State → State
+takes_turn s = record s { turns = s.turns + 1 }
+
+-- the top frame stands at a label
+abbrev pub at_label : List ℕ → List Frame → List Frame
+at_label label [] = []
+at_label label (frame ∷ frames) = record frame { label = label } ∷ frames
+
+abbrev pub goes_to : List ℕ → State → State
+goes_to label s = record s { frames = at_label label s.frames }
+
+-- the run goes on with a value, or ends with a trap
+abbrev pub given : Result Value Trap → (Value → State) → State → State
+given (Ok value) onward s = onward value
+given (Err trap) onward s = ends (trapped trap) s
+
+-- the most bytes that a run may write
+abbrev pub output_limit : ℕ
+output_limit = 1048576
+
+-- a line is written, if the output has room for all of it
+abbrev pub prints : List ℕ → List ℕ → State → State
+prints line next s =
+    if nat_lt output_limit (length (s.output ++ line))
+    then ends (trapped OutputFull) s
+    else goes_to next (record s { output = s.output ++ line })
+
+-- a waiting frame gets its result
+abbrev pub resumes : Value → Frame → List Frame → Option ℕ → State → State
+resumes value frame frames None s = ends stuck (record s { frames = frame ∷ frames })
+resumes value frame frames (Some variable) s =
+    record s { frames = record frame { environment = slice_set frame.environment variable (Some value); waits = None } ∷ frames }
+
+-- the top frame ends with a value: the frame below gets it, or else the run ends with it
+abbrev pub returns : Value → List Frame → State → State
+returns value [] s = ends (returned value) s
+returns value (frame ∷ []) s = ends (returned value) s
+returns value (frame ∷ below ∷ frames) s = resumes value below frames below.waits s
+
+-- one instruction of the top frame; `next` is the label of the line behind it
+abbrev pub act : ProgramView → Choice → Frame → Instr → List ℕ → State → State
+act program choice frame (Print e) next s =
+    given (eval frame.environment s.heap e) (λ value. prints (value_text program s.heap value ++ 10 ∷ []) next s) s
+act program choice frame (Return e) next s =
+    given (eval frame.environment s.heap e) (λ value. returns value s.frames (takes_turn s)) (takes_turn s)
+act program choice frame Stop next s = ends stopped s
+
+-- the first of the lines that are left
+abbrev pub act_first : ProgramView → Choice → Frame → List Line → State → State
+act_first program choice frame [] s = ends stuck s
+act_first program choice frame (line ∷ lines) s = act program choice frame line.instr (first_label lines) s
+
+-- the instruction at which the top frame stands
+abbrev pub act_top : ProgramView → Choice → List Frame → State → State
+act_top program choice [] s = ends stuck s
+act_top program choice (frame ∷ frames) s =
+    act_first program choice frame (from_label frame.label (lines_of program frame.code)) s
+
+abbrev pub unless_ended : Option Ending → State → State → State
+unless_ended None next s = next
+unless_ended (Some ending) next s = s
+
+-- one step of a run; a run that has ended stays as it is
+abbrev pub step : ProgramView → Choice → State → State
+step program choice s = unless_ended s.ending (act_top program choice s.frames s) s

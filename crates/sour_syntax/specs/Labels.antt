@@ -1,0 +1,13 @@
+use Rattle.std.specs.Prelude.{ℕ, List, [], ◌∷◌, if◌then◌else◌}
+use Rattle.std.specs.Str.{bytes_eq}
+use Rattle.sour_syntax.specs.declared.instruction.Line.{Line}
+
+-- the lines from the one with this label on; none where no line has it
+abbrev pub from_label : List ℕ → List Line → List Line
+from_label label [] = []
+from_label label (line ∷ lines) = if bytes_eq line.label label then line ∷ lines else from_label label lines
+
+-- the label of the first line; of no lines it is the empty one, which no line of a text has
+abbrev pub first_label : List Line → List ℕ
+first_label [] = []
+first_label (line ∷ lines) = line.label
