@@ -1,4 +1,4 @@
-use Rattle.std.specs.Prelude.{ℕ, List, [], ◌∷◌, if◌then◌else◌}
+use Rattle.std.specs.Prelude.{ℕ, List, [], ◌∷◌, decimal, if◌then◌else◌}
 use Rattle.std.specs.Str.{bytes_eq}
 use Rattle.sour_syntax.specs.declared.instruction.Line.{Line}
 
@@ -11,3 +11,7 @@ from_label label (line ∷ lines) = if bytes_eq line.label label then line ∷ l
 abbrev pub first_label : List Line → List ℕ
 first_label [] = []
 first_label (line ∷ lines) = line.label
+
+-- the label of a line that the text gives none
+abbrev pub automatic_label : ℕ → List ℕ
+automatic_label place = 95 ∷ decimal place

@@ -1,5 +1,8 @@
-ghost use Rattle.std.specs.Prelude.{◌≡◌, ◌↔◌, IsTrue};
+ghost use Rattle.std.specs.Prelude.{◌≡◌, ◌↔◌, IsTrue, IfOk};
+ghost use Rattle.sour_syntax.specs.Labels.{automatic_label};
 
+use itoa::Buffer;
+use std::alloc::{AllocError, Global};
 use std::marker::Model;
 
 /// A label or another name. Contracts see it as its bytes.
@@ -25,6 +28,18 @@ impl Label {
         ensures { result ≡ bytes.items }
     {
         Label { bytes }
+    }
+
+    /// The label of a line that the text gives none: `_` and its place in its version, counted from 0.
+    pub fn automatic(alloc: Global, place: u32) -> Result<Label, AllocError>
+        ensures { IfOk result (λ label. label ≡ automatic_label place) }
+    {
+        let mut buffer = Buffer::new();
+        let digits = buffer.format(place).as_bytes();
+        let mut bytes = Vec::with_capacity(alloc, digits.len() + 1)?;
+        bytes.push(b'_')?;
+        bytes.extend_from_slice(digits)?;
+        Ok(Label { bytes })
     }
 
     /// Its bytes.
