@@ -1,0 +1,2 @@
+pub mod StepTurns
+pub mod RunRests

@@ -1,0 +1,75 @@
+-- Where a run of the text rests.
+use Rattle.std.proofs.Common.{◌≡◌, ◌+◌, ◌-◌, ◌≤◌, ⊎_elim, ℕ, zero, suc, List, Option, None, Some, IsSome, inl, inr, refl, sym, ◌∙◌, subst, ap, arith}
+use Rattle.std.proofs.lemmas.Bool.{cases_lt}
+use Rattle.sour_syntax.specs.declared.literal.Literal.{Literal}
+use Rattle.sour_syntax.specs.Program.{ProgramView}
+use Rattle.sour_semantics.specs.State.{State, Ending}
+use Rattle.sour_semantics.specs.Step.{step, text_choice, unless_ended}
+use Rattle.sour_semantics.specs.Run.{start, text_run, IsAtBudget, TextAt}
+use Rattle.laws_runs.proofs.StepTurns.{Near-step}
+
+stays : (ending : Option Ending) (s t : State) → IsSome ending → unless_ended ending t s ≡ s
+stays None s t ended = cc
+stays (Some ending) s t ended = refl
+
+-- a run that has ended stays as it is
+pub step-ended : (program : ProgramView) (s : State) → IsSome s.ending → step program text_choice s ≡ s
+step-ended program s ended = stays s.ending s _ ended
+
+pub text_run-ended : (program : ProgramView) (count : ℕ) (s : State) → IsSome s.ending → text_run program count s ≡ s
+text_run-ended program zero s ended = refl
+text_run-ended program (suc count) s ended =
+    ap (text_run program count) (step-ended program s ended) ∙ text_run-ended program count s ended
+
+-- turns never fall along a run
+pub turns-text_run : (program : ProgramView) (count : ℕ) (s : State) → s.turns ≤ (text_run program count s).turns
+turns-text_run program zero s = omega arith
+turns-text_run program (suc count) s =
+    let next = step program text_choice s in
+    omega (arith, (Near-step program text_choice s).least, turns-text_run program count next)
+
+turns_within : (program : ProgramView) (budget : ℕ) (s : State) → IsAtBudget program budget s → s.turns ≤ budget
+turns_within program budget s (inl ended) = ended.1
+turns_within program budget s (inr open_still) = omega (arith, open_still.1)
+
+-- where a run rests at a budget, it rests at no later state
+later : (program : ProgramView) (budget : ℕ) (s : State) (count : ℕ)
+    → IsAtBudget program budget s → IsAtBudget program budget (text_run program count s) → s ≡ text_run program count s
+later program budget s zero at_s at_t = refl
+later program budget s (suc count) (inl ended) at_t = sym (text_run-ended program (suc count) s ended.0)
+later program budget s (suc count) (inr more) at_t =
+    let next = step program text_choice s in
+    absurd (omega (arith, more.1, more.2, turns-text_run program count next, turns_within program budget (text_run program count next) at_t))
+
+-- so many steps, and then so many more
+pub text_run-add : (program : ProgramView) (m n : ℕ) (s : State)
+    → text_run program (m + n) s ≡ text_run program n (text_run program m s)
+text_run-add program zero n s = let e : 0 + n ≡ n = omega arith in rw e
+text_run-add program (suc m) n s =
+    let e : suc m + n ≡ suc (m + n) = omega arith in
+    rw e (text_run-add program m n (step program text_choice s))
+
+-- of two states at which a run rests, the one with no fewer steps is no other
+in_order : (program : ProgramView) (budget m n : ℕ) (s : State) → m ≤ n
+    → IsAtBudget program budget (text_run program m s) → IsAtBudget program budget (text_run program n s)
+    → text_run program m s ≡ text_run program n s
+in_order program budget m n s le at_m at_n =
+    let e : n ≡ m + (n - m) = omega arith in
+    let same : text_run program n s ≡ text_run program (n - m) (text_run program m s) =
+    ap (λ k. text_run program k s) e ∙ text_run-add program m (n - m) s in
+    later program budget (text_run program m s) (n - m) at_m (subst (IsAtBudget program budget) same at_n) ∙ sym same
+
+-- a run rests in one state
+pub one : (program : ProgramView) (input : List Literal) (budget : ℕ) (s t : State)
+    → TextAt program input budget s → TextAt program input budget t → s ≡ t
+one program input budget s t at_s at_t =
+    let begin = start program input in
+    let rests_s : IsAtBudget program budget (text_run program at_s.steps begin) =
+    subst (IsAtBudget program budget) (sym at_s.reached) at_s.rests in
+    let rests_t : IsAtBudget program budget (text_run program at_t.steps begin) =
+    subst (IsAtBudget program budget) (sym at_t.reached) at_t.rests in
+    let same : text_run program at_s.steps begin ≡ text_run program at_t.steps begin =
+    ⊎_elim (λ lt. in_order program budget at_s.steps at_t.steps begin (omega (arith, lt)) rests_s rests_t)
+    (λ le. sym (in_order program budget at_t.steps at_s.steps begin le rests_t rests_s))
+    (cases_lt at_s.steps at_t.steps) in
+    sym at_s.reached ∙ same ∙ at_t.reached
