@@ -24,3 +24,6 @@ pub use literal::{FunId, Literal, Value};
 pub use names::Names;
 pub use program::{Function, Program, Version};
 pub use trap::Trap;
+
+#[cfg(test)]
+mod tests;

@@ -1,0 +1,81 @@
+ghost use Rattle.std.specs.Prelude.{◌≡◌, IfOk};
+
+use crate::{
+    Body, Expr, FunId, Function, Instr, Label, Line, List, Literal, Names, Program, Simple, Trap,
+    Version,
+};
+use std::alloc::{AllocError, Global};
+use std::test::Fail;
+
+#[test]
+fn a_list_keeps_its_elements_in_order(rt: HostRuntime) -> Result<(), Fail> {
+    let mut list = List::new(rt.alloc());
+    list.push(7u64)?;
+    list.push(8)?;
+    assert_eq!(rt; list.len(), 2);
+    assert_eq!(rt; list.get(1), Some(&8));
+    assert_eq!(rt; list.get(2), None);
+    assert_eq!(rt; list.as_slice(), [7, 8].as_slice());
+    assert_eq!(rt; List::from_vec(list.into_vec()).len(), 2);
+    Ok(())
+}
+
+#[test]
+fn labels_are_their_bytes(rt: HostRuntime) -> Result<(), Fail> {
+    for (place, text) in [(0, "_0"), (10, "_10"), (4095, "_4095")] {
+        let label = Label::automatic(rt.alloc(), place)?;
+        assert_eq!(rt; label.as_bytes(), text.as_bytes());
+        let written = Label::from_bytes(Vec::from_slice(rt.alloc(), text.as_bytes())?);
+        assert!(rt; label.is_same(&written));
+    }
+    assert!(rt; !Label::automatic(rt.alloc(), 1)?.is_same(&Label::automatic(rt.alloc(), 11)?));
+    Ok(())
+}
+
+fn body_that_returns_nil(alloc: Global) -> Result<Body, AllocError>
+    ensures { IfOk result (λ body. body.parameters ≡ 0) }
+{
+    let label = Label::automatic(alloc, 0)?;
+    let instr = Instr::Return(Expr::Plain(Simple::Lit(Literal::Nil)));
+    let mut lines = List::new(alloc);
+    lines.push(Line { label, instr })?;
+    Ok(Body::new(FunId(0), 0, Names::new(alloc), lines))
+}
+
+#[test]
+fn a_body_gives_its_parts(rt: HostRuntime) -> Result<(), Fail> {
+    let body = body_that_returns_nil(rt.alloc())?;
+    assert_eq!(rt; body.function(), FunId(0));
+    assert_eq!(rt; body.parameters(), 0);
+    assert_eq!(rt; body.variables().len(), 0);
+    assert_eq!(rt; body.lines().len(), 1);
+    assert_eq!(rt; body.lines()[0].label.as_bytes(), b"_0".as_slice());
+    Ok(())
+}
+
+fn program_of(alloc: Global, body: Body) -> Result<Program, AllocError>
+    requires { body.parameters ≡ 0 }
+{
+    let name = Label::from_bytes(Vec::from_slice(alloc, b"base")?);
+    let mut versions = List::new(alloc);
+    versions.push(Version { name, body })?;
+    let name = Label::from_bytes(Vec::from_slice(alloc, b"main")?);
+    let mut functions = List::new(alloc);
+    functions.push(Function { name, versions })?;
+    Ok(Program::of_functions(functions, FunId(0)))
+}
+
+#[test]
+fn a_program_gives_its_functions(rt: HostRuntime) -> Result<(), Fail> {
+    let body = body_that_returns_nil(rt.alloc())?;
+    let program = program_of(rt.alloc(), body)?;
+    assert_eq!(rt; program.main(), FunId(0));
+    assert!(rt; program.function(FunId(0)).is_some());
+    assert!(rt; program.function(FunId(1)).is_none());
+    Ok(())
+}
+
+#[test]
+fn traps_have_their_numbers(rt: HostRuntime) {
+    assert_eq!(rt; Trap::OutputFull.number(), 9);
+}
