@@ -1,0 +1,4 @@
+pub mod Cause
+pub mod Told
+pub mod MemorySource
+pub mod MemorySink
