@@ -1,0 +1,7 @@
+pub mod Fronts
+pub mod TokenLaws
+pub mod LineLaws
+pub mod StepLaws
+pub mod ReadSoFar
+pub mod TextLaws
+pub mod KindLaws
