@@ -1,0 +1,3 @@
+mod Instructions
+mod Advances
+pub mod Rests

@@ -1,0 +1,20 @@
+use Rattle.std.specs.Prelude.{Bool, true, false, Option, None, Some}
+use Rattle.sour_semantics.specs.State.{Ending, returned, stopped, trapped}
+use Rattle.sour_machine.specs.declared.report.End.{End}
+use Rattle.sour_machine.specs.declared.report.End.TheVariants.{Returned, Stopped, Trapped, Cut, Memory}
+
+-- how the program ended, where it did
+abbrev pub ending_of : End → Option Ending
+ending_of (Returned value) = Some (returned value)
+ending_of Stopped = Some stopped
+ending_of (Trapped trap) = Some (trapped trap)
+ending_of Cut = None
+ending_of Memory = None
+
+-- memory was wanting
+abbrev pub is_memory : End → Bool
+is_memory (Returned value) = false
+is_memory Stopped = false
+is_memory (Trapped trap) = false
+is_memory Cut = false
+is_memory Memory = true

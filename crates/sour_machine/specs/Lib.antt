@@ -1,0 +1,4 @@
+pub mod End
+pub mod Run
+pub mod Moment
+pub mod Instruction

@@ -1,0 +1,14 @@
+use crate::output::Output;
+use crate::report::End;
+
+/// How far a run has come.
+#[derive(Drop)]
+pub(crate) struct Moment {
+    /// The place of the next line in `main`, counted from 0.
+    pub(crate) place: usize,
+    pub(crate) output: Output,
+    /// The turns taken so far.
+    pub(crate) turns: u64,
+    /// What a report would say: `Cut` as long as the run goes on.
+    pub(crate) end: End,
+}

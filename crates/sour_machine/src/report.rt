@@ -1,0 +1,51 @@
+ghost use Rattle.std.specs.Prelude.{◌≡◌, []};
+
+use sour_syntax::{List, Trap, Value};
+use std::alloc::Global;
+
+/// How a run ended.
+#[derive(Clone, Copy, Debug, PartialEq, Eq)]
+pub enum End {
+    /// `main` returned this value.
+    Returned(Value),
+    /// The program stopped itself.
+    Stopped,
+    /// An instruction could not be carried out.
+    Trapped(Trap),
+    /// The run was not over when its turns were used up.
+    Cut,
+    /// Memory was wanting.
+    Memory,
+}
+
+/// What a run came to.
+#[derive(Drop)]
+pub struct Report {
+    /// The number of the input that the run was given, counted from 1.
+    pub input: u64,
+    /// The bytes that the run wrote.
+    pub output: List<u8>,
+    pub end: End,
+    /// How many values of the input it read.
+    pub read: u64,
+    /// The turns that it took.
+    pub turns: u64,
+    /// How many calls entered a function; entering `main` is the first.
+    pub calls: u64,
+}
+
+impl Report {
+    /// The report on an input for which there was no memory to run at all. It takes no memory.
+    pub fn wanting(alloc: Global, input: u64) -> Report
+        ensures { result ≡ record { input = input; output = []; end = End.Memory; read = 0; turns = 0; calls = 0 } }
+    {
+        Report {
+            input,
+            output: List::new(alloc),
+            end: End::Memory,
+            read: 0,
+            turns: 0,
+            calls: 0,
+        }
+    }
+}

@@ -1,0 +1,135 @@
+ghost use Rattle.std.specs.Prelude.{◌≡◌, ◌≢◌, ◌+◌, ◌≤◌, ◌↔◌, true, false, length, IsTrue, IfOk, if◌then◌else◌};
+ghost use Rattle.sour_semantics.specs.Run.{start};
+ghost use Rattle.sour_machine.specs.End.{ending_of};
+ghost use Rattle.sour_machine.specs.Run.{GoesOn, Tells, IsAtRest};
+
+use crate::advance::advance;
+use crate::moment::Moment;
+use crate::output::Output;
+use crate::report::{End, Report};
+use sour_syntax::{List, Literal, Program};
+use std::alloc::{AllocError, Global};
+use std::marker::Model;
+use std::sync::Arc;
+
+/// Why a run stopped going on.
+#[derive(Clone, Copy, Debug, PartialEq, Eq)]
+pub enum Advance {
+    /// The run has ended.
+    Ended,
+    /// The turns were taken, and the next instruction would take another.
+    MoreTurns,
+    /// Memory was wanting.
+    Memory,
+}
+
+/// A run of a program on an input.
+///
+/// Where memory is wanting, the run stays as it was before the instruction that wanted it, and from
+/// then on it answers `Memory` alone.
+#[derive(Drop)]
+pub struct Run {
+    program: Arc<Program>,
+    input: List<Literal>,
+    /// Whether it has entered `main`.
+    entered: bool,
+    moment: Moment,
+}
+
+impl Model for Run {
+    ghost use Rattle.sour_machine.specs.Run.{RunView};
+
+    ghost Value = { RunView };
+
+    ghost use Rattle.sour_machine.specs.Moment.{run_at, StandsAtLine};
+
+    ghost view = { λ run. run_at run.program.value run.input run.entered run.moment };
+
+    ghost invariant = { λ run. StandsAtLine run.program.value run.moment };
+}
+
+impl Run {
+    /// A run that hasn't entered `main` yet. It keeps a copy of the input.
+    pub fn start(alloc: Global, program: Arc<Program>, input: &[Literal]) -> Result<Run, AllocError>
+        ensures { IfOk result (λ run. run ≡ record {
+          program = program.value;
+          input = input.now;
+          state = start program.value input.now;
+          entered = false;
+          wanting = false;
+        }) }
+    {
+        let input = List::from_vec(Vec::from_slice(alloc, input)?);
+        let moment = Moment {
+            place: 0,
+            output: Output::new(alloc),
+            turns: 0,
+            end: End::Cut,
+        };
+        Ok(Run {
+            program,
+            input,
+            entered: false,
+            moment,
+        })
+    }
+
+    /// The turns taken so far.
+    pub fn turns(&self) -> u64
+        ensures { result ≡ self.now.state.turns }
+    {
+        self.moment.turns
+    }
+
+    /// Goes on with `turns` further turns. It enters `main` first, if that hasn't been done, which takes
+    /// no turn. Each call enters the text version of its function.
+    pub fn advance_text(&mut self, turns: u64) -> Advance
+        requires { self.old.state.turns + turns ≤ 10000000 }
+        ensures goes_on { GoesOn self.old self.new }
+        ensures within { self.new.state.turns ≤ self.old.state.turns + turns }
+        ensures tells { Tells result (self.old.state.turns + turns) self.new }
+        ensures rests { IsAtRest self.new }
+
+        // Want of memory is for good.
+        ensures wanting { IsTrue self.old.wanting → self.new ≡ self.old }
+    {
+        if let End::Memory = self.moment.end {
+            return Advance::Memory;
+        }
+        self.entered = true;
+        let budget = self.moment.turns + turns;
+        advance(&self.program, &mut self.moment, budget)
+    }
+
+    /// The report on this run, as that of the input with this number, counted from 1. It takes no memory.
+    pub fn finish(self, input: u64) -> Report
+        requires { IsAtRest self }
+        ensures input { result.input ≡ input }
+        ensures output { result.output ≡ self.state.output }
+        ensures memory { (result.end ≡ End.Memory) ↔ IsTrue self.wanting }
+        ensures end { ending_of result.end ≡ self.state.ending }
+        ensures read { result.read + length self.state.rest ≡ length self.input }
+        ensures turns { result.turns ≡ self.state.turns }
+        ensures calls { result.calls ≡ (if self.entered then 1 else 0) }
+    {
+        let Run {
+            entered,
+            moment,
+            ..
+        } = self;
+        let Moment {
+            output,
+            turns,
+            end,
+            ..
+        } = moment;
+        Report {
+            input,
+            output: output.into_list(),
+            end,
+            read: 0,
+            turns,
+            calls: if entered { 1 } else { 0 },
+        }
+    }
+}
