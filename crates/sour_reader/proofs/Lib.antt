@@ -1,0 +1,10 @@
+pub mod Digits
+pub mod Faults
+pub mod Fronts
+pub mod Headings
+pub mod InputLaws
+pub mod Jobs
+pub mod LabelLaws
+pub mod Lists
+pub mod Prefixes
+pub mod Programs

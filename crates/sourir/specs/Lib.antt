@@ -1,0 +1,6 @@
+pub mod Ports
+pub mod Status
+pub mod Answer
+pub mod Fault
+pub mod Report
+pub mod Tally
