@@ -1,15 +1,17 @@
 -- How many turns a step takes.
 use Rattle.std.proofs.Common.{◌+◌, ◌≤◌, ℕ, Bool, true, false, List, [], ◌∷◌, ◌++◌, Option, None, Some, Result, Ok, Err, cond, ltb, length, arith}
 use Rattle.sour_syntax.specs.declared.instruction.Instr.{Instr}
-use Rattle.sour_syntax.specs.declared.instruction.Instr.TheVariants.{Print, Return, Stop}
+use Rattle.sour_syntax.specs.declared.instruction.Instr.TheVariants.{Var, Assign, Print, Read, Return, Stop}
 use Rattle.sour_syntax.specs.declared.instruction.Line.{Line}
+use Rattle.sour_syntax.specs.declared.literal.Literal.{Literal}
 use Rattle.sour_syntax.specs.declared.literal.Value.{Value}
+use Rattle.sour_syntax.specs.declared.literal.VarId.{VarId}
 use Rattle.sour_syntax.specs.declared.trap.Trap.{Trap}
 use Rattle.sour_syntax.specs.Labels.{from_label, first_label}
 use Rattle.sour_syntax.specs.Program.{ProgramView}
 use Rattle.sour_semantics.specs.State.{Frame, State, Ending}
 use Rattle.sour_semantics.specs.Evaluation.{eval}
-use Rattle.sour_semantics.specs.Step.{Choice, step, given, prints, output_limit, takes_turn, returns, resumes, act, act_first, act_top, unless_ended, lines_of}
+use Rattle.sour_semantics.specs.Step.{Choice, step, given, reads, prints, output_limit, takes_turn, returns, resumes, act, act_first, act_top, unless_ended, lines_of}
 
 -- from s to t one turn was taken, or none
 pub record Near (s t : State) : Type 0 where
@@ -49,8 +51,17 @@ Near-returns value [] s = record { least = omega arith; most = omega arith }
 Near-returns value (frame ∷ []) s = record { least = omega arith; most = omega arith }
 Near-returns value (frame ∷ below ∷ frames) s = Near-resumes value below frames below.waits s
 
+Near-reads : (x : VarId) (rest : List Literal) (next : List ℕ) (s : State) → Near s (reads x rest next s)
+Near-reads x [] next s = record { least = omega arith; most = omega arith }
+Near-reads x (literal ∷ rest) next s = record { least = omega arith; most = omega arith }
+
 Near-act : (program : ProgramView) (choice : Choice) (frame : Frame) (instr : Instr) (next : List ℕ) (s : State)
     → Near s (act program choice frame instr next s)
+Near-act program choice frame (Var x e) next s =
+    Near-given s (eval frame.environment s.heap e) _ s (λ value. record { least = omega arith; most = omega arith }) (Near-same s)
+Near-act program choice frame (Assign x e) next s =
+    Near-given s (eval frame.environment s.heap e) _ s (λ value. record { least = omega arith; most = omega arith }) (Near-same s)
+Near-act program choice frame (Read x) next s = Near-reads x s.rest next s
 Near-act program choice frame (Print e) next s =
     Near-given s (eval frame.environment s.heap e) _ s (λ value. Near-prints _ next s) (Near-same s)
 Near-act program choice frame (Return e) next s =

@@ -11,7 +11,8 @@ use Rattle.sour_syntax.specs.Program.{ProgramView}
 use Rattle.sour_semantics.specs.State.{State}
 use Rattle.sour_semantics.specs.Step.{text_choice, act, step}
 use Rattle.sour_semantics.specs.Run.{TakesTurn, IsAtBudget}
-use Rattle.sour_semantics.proofs.Places.{step-at_place, lt-EndsInTerminator, EndsInTerminator-next}
+use Rattle.sour_semantics.proofs.Places.{step-at_place}
+use Rattle.sour_syntax.proofs.LabelPlaces.{lt-EndsInTerminator, EndsInTerminator-next}
 use Rattle.sour_semantics.proofs.Runs.{text_run-suc}
 use Rattle.sour_machine.specs.declared.moment.Moment.{Moment}
 use Rattle.sour_machine.specs.declared.report.End.{End}

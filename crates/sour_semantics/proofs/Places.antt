@@ -1,69 +1,12 @@
--- Places and labels: where the labels of some lines differ, the lines from the label of the one at a place on are the lines from that place on.
-use Rattle.std.proofs.Common.{◌≡◌, ◌≢◌, ℕ, zero, suc, ◌+◌, ◌<◌, List, [], ◌∷◌, Bool, true, false, cond, None, Some, length, drop, refl, sym, ap, ◌∙◌, subst, add-one, arith}
-use Rattle.std.specs.List.{AllByRecursion, slice_get}
-use Rattle.std.specs.Str.{bytes_eq}
-use Rattle.std.proofs.lemmas.Slice.Eq.{bytes_eq-Decides}
+-- A step of a frame that stands at a place of its lines.
+use Rattle.std.proofs.Common.{◌≡◌, ℕ, ◌+◌, ◌<◌, List, ◌∷◌, None, Some, length, drop, ap, ◌∙◌}
+use Rattle.std.specs.List.{slice_get}
 use Rattle.sour_syntax.specs.declared.instruction.Line.{Line}
-use Rattle.sour_syntax.specs.Body.{LabelsDiffer, IsTerminator, EndsInTerminator}
-use Rattle.sour_syntax.specs.Labels.{from_label, first_label}
+use Rattle.sour_syntax.specs.Labels.{LabelsDiffer, from_label, first_label}
 use Rattle.sour_syntax.specs.Program.{ProgramView}
+use Rattle.sour_syntax.proofs.LabelPlaces.{from_label-first_label-drop, drop-slice_get}
 use Rattle.sour_semantics.specs.State.{Frame, State}
 use Rattle.sour_semantics.specs.Step.{Choice, lines_of, act, act_first, act_top, unless_ended, step}
-
--- no line from a place on has a label that no line has
-first_label-drop-differs : (label : List ℕ) (lines : List Line) (place : ℕ) → AllByRecursion (λ other. other.label ≢ label) lines → place < length lines → first_label (drop place lines) ≢ label
-first_label-drop-differs label [] place differ within = absurd (omega arith)
-first_label-drop-differs label (line ∷ lines) zero differ within = differ.0
-first_label-drop-differs label (line ∷ lines) (suc place) differ within =
-    first_label-drop-differs label lines place differ.1 (omega arith)
-
--- the first line is taken, or passed over
-from_label-first : (label : List ℕ) (line : Line) (lines : List Line) → line.label ≡ label → from_label label (line ∷ lines) ≡ line ∷ lines
-from_label-first label line lines same =
-    ap (λ test. cond test (line ∷ lines) (from_label label lines)) ((bytes_eq-Decides line.label label).1 same)
-
-tested : (a b : List ℕ) (test : Bool) → bytes_eq a b ≡ test → a ≢ b → test ≡ false
-tested a b true is other = absurd (other ((bytes_eq-Decides a b).0 is))
-tested a b false is other = refl
-
-from_label-other : (label : List ℕ) (line : Line) (lines : List Line) → line.label ≢ label → from_label label (line ∷ lines) ≡ from_label label lines
-from_label-other label line lines other =
-    ap (λ test. cond test (line ∷ lines) (from_label label lines)) (tested line.label label (bytes_eq line.label label) refl other)
-
-pub from_label-first_label-drop : (lines : List Line) (place : ℕ) → LabelsDiffer lines → place < length lines → from_label (first_label (drop place lines)) lines ≡ drop place lines
-from_label-first_label-drop [] place differ within = absurd (omega arith)
-from_label-first_label-drop (line ∷ lines) zero differ within = from_label-first line.label line lines refl
-from_label-first_label-drop (line ∷ lines) (suc place) differ within =
-    let inner : place < length lines = omega arith in
-    from_label-other (first_label (drop place lines)) line lines (λ same. first_label-drop-differs line.label lines place differ.0 inner (sym same))
-    ∙ from_label-first_label-drop lines place differ.1 inner
-
-drop-suc : (lines : List Line) (place : ℕ) (line : Line) → slice_get lines place ≡ Some line → drop place lines ≡ line ∷ drop (suc place) lines
-drop-suc [] place line found = cc
-drop-suc (first ∷ lines) zero line found = let same : first ≡ line = cc in ap (λ it. it ∷ lines) same
-drop-suc (first ∷ lines) (suc place) line found = drop-suc lines place line found
-
--- the lines from a place on begin with the line at that place
-pub drop-slice_get : (lines : List Line) (place : ℕ) (line : Line) → slice_get lines place ≡ Some line → drop place lines ≡ line ∷ drop (place + 1) lines
-drop-slice_get lines place line found = rw add-one (drop-suc lines place line found)
-
--- there is a line from each place on from which the lines end in a terminator
-pub lt-EndsInTerminator : (lines : List Line) (place : ℕ) → EndsInTerminator (drop place lines) → place < length lines
-lt-EndsInTerminator [] zero end = absurd end
-lt-EndsInTerminator [] (suc place) end = absurd end
-lt-EndsInTerminator (line ∷ lines) zero end = omega arith
-lt-EndsInTerminator (line ∷ lines) (suc place) end =
-    let inner : place < length lines = lt-EndsInTerminator lines place end in omega arith
-
-rest_ends : (line : Line) (lines : List Line) → (IsTerminator line.instr → ⊥) → EndsInTerminator (line ∷ lines) → EndsInTerminator lines
-rest_ends line [] going end = absurd (going end)
-rest_ends line (next ∷ lines) going end = end
-
--- behind a line that is no terminator the lines go on, and end in a terminator
-pub EndsInTerminator-next : (lines : List Line) (place : ℕ) (line : Line) → slice_get lines place ≡ Some line → (IsTerminator line.instr → ⊥) → EndsInTerminator (drop place lines) → EndsInTerminator (drop (place + 1) lines)
-EndsInTerminator-next lines place line found going end =
-    let P : List Line → Type 0 = EndsInTerminator in
-    rest_ends line (drop (place + 1) lines) going (subst P (drop-slice_get lines place line found) end)
 
 -- a step of a frame that stands at a place of its lines is the instruction there
 pub step-at_place : (program : ProgramView) (choice : Choice) (s : State) (frame : Frame) (frames : List Frame) (place : ℕ) (line : Line)

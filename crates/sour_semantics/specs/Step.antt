@@ -1,12 +1,15 @@
 use Rattle.std.specs.Prelude.{ℕ, ◌+◌, List, [], ◌∷◌, ◌++◌, Option, None, Some, Result, Ok, Err, Bool, length, nat_lt, slice_get, slice_set, if◌then◌else◌}
 use Rattle.sour_syntax.specs.declared.instruction.Instr.{Instr}
-use Rattle.sour_syntax.specs.declared.instruction.Instr.TheVariants.{Print, Return, Stop}
+use Rattle.sour_syntax.specs.declared.instruction.Instr.TheVariants.{Var, Assign, Print, Read, Return, Stop}
 use Rattle.sour_syntax.specs.declared.instruction.Line.{Line}
+use Rattle.sour_syntax.specs.declared.literal.Literal.{Literal}
 use Rattle.sour_syntax.specs.declared.literal.Value.{Value}
+use Rattle.sour_syntax.specs.declared.literal.Value.TheVariants.{Plain}
+use Rattle.sour_syntax.specs.declared.literal.VarId.{VarId}
 use Rattle.sour_syntax.specs.declared.program.Function.{Function}
 use Rattle.sour_syntax.specs.declared.program.Version.{Version}
 use Rattle.sour_syntax.specs.declared.trap.Trap.{Trap}
-use Rattle.sour_syntax.specs.declared.trap.Trap.TheVariants.{OutputFull}
+use Rattle.sour_syntax.specs.declared.trap.Trap.TheVariants.{InputEnd, OutputFull}
 use Rattle.sour_syntax.specs.Labels.{from_label, first_label}
 use Rattle.sour_syntax.specs.Program.{ProgramView}
 use Rattle.sour_semantics.specs.State.{Frame, FrameCode, text, Ending, stopped, returned, trapped, stuck, State}
@@ -55,6 +58,20 @@ at_label label (frame ∷ frames) = record frame { label = label } ∷ frames
 abbrev pub goes_to : List ℕ → State → State
 goes_to label s = record s { frames = at_label label s.frames }
 
+-- a variable of the top frame has a value
+abbrev pub with_variable : VarId → Value → List Frame → List Frame
+with_variable x value [] = []
+with_variable x value (frame ∷ frames) =
+    record frame { environment = slice_set frame.environment x.0 (Some value) } ∷ frames
+
+abbrev pub sets : VarId → Value → State → State
+sets x value s = record s { frames = with_variable x value s.frames }
+
+-- the next value of the input is read into a variable
+abbrev pub reads : VarId → List Literal → List ℕ → State → State
+reads x [] next s = ends (trapped InputEnd) s
+reads x (literal ∷ rest) next s = goes_to next (sets x (Plain literal) (record s { rest = rest }))
+
 -- the run goes on with a value, or ends with a trap
 abbrev pub given : Result Value Trap → (Value → State) → State → State
 given (Ok value) onward s = onward value
@@ -85,6 +102,11 @@ returns value (frame ∷ below ∷ frames) s = resumes value below frames below.
 
 -- one instruction of the top frame; `next` is the label of the line behind it
 abbrev pub act : ProgramView → Choice → Frame → Instr → List ℕ → State → State
+act program choice frame (Var x e) next s =
+    given (eval frame.environment s.heap e) (λ value. goes_to next (sets x value s)) s
+act program choice frame (Assign x e) next s =
+    given (eval frame.environment s.heap e) (λ value. goes_to next (sets x value s)) s
+act program choice frame (Read x) next s = reads x s.rest next s
 act program choice frame (Print e) next s =
     given (eval frame.environment s.heap e) (λ value. prints (value_text program s.heap value ++ 10 ∷ []) next s) s
 act program choice frame (Return e) next s =

@@ -1,4 +1,5 @@
-use Rattle.std.specs.Prelude.{ℕ, List, [], ◌∷◌, decimal, if◌then◌else◌}
+use Rattle.std.specs.Prelude.{◌≢◌, ℕ, List, [], ◌∷◌, decimal, if◌then◌else◌}
+use Rattle.std.specs.List.{AllByRecursion}
 use Rattle.std.specs.Str.{bytes_eq}
 use Rattle.sour_syntax.specs.declared.instruction.Line.{Line}
 
@@ -15,3 +16,8 @@ first_label (line ∷ lines) = line.label
 -- the label of a line that the text gives none
 abbrev pub automatic_label : ℕ → List ℕ
 automatic_label place = 95 ∷ decimal place
+
+-- no two lines have the same label
+abbrev pub LabelsDiffer : List Line → Type 0
+LabelsDiffer [] = Unit {0}
+LabelsDiffer (line ∷ lines) = AllByRecursion (λ other. other.label ≢ line.label) lines × LabelsDiffer lines

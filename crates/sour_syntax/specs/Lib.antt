@@ -1,4 +1,8 @@
 pub mod Trap
-pub mod Body
+pub mod Names
+pub mod BodyView
 pub mod Labels
+pub mod Terminator
+pub mod Scopes
+pub mod Body
 pub mod Program

@@ -1,5 +1,7 @@
 ghost use Rattle.std.specs.Prelude.{◌≡◌, ◌≤◌, length};
-ghost use Rattle.sour_syntax.specs.Body.{LabelsDiffer, EndsInTerminator};
+ghost use Rattle.sour_syntax.specs.Labels.{LabelsDiffer};
+ghost use Rattle.sour_syntax.specs.Terminator.{EndsInTerminator};
+ghost use Rattle.sour_syntax.specs.Scopes.{HasScopes, MentionsItsVariables};
 
 use crate::instruction::Line;
 use crate::list::List;
@@ -7,7 +9,8 @@ use crate::literal::FunId;
 use crate::names::Names;
 use std::marker::Model;
 
-/// The instructions of one version. Its labels differ, and no path through it falls off its end.
+/// The instructions of one version. Its labels differ, no path through it falls off its end, and each
+/// label has one scope, in which the instruction there may stand.
 #[derive(Drop)]
 pub struct Body {
     function: FunId,
@@ -17,7 +20,8 @@ pub struct Body {
 }
 
 impl Model for Body {
-    ghost use Rattle.sour_syntax.specs.Body.{BodyView, IsBody};
+    ghost use Rattle.sour_syntax.specs.BodyView.{BodyView};
+    ghost use Rattle.sour_syntax.specs.Body.{IsBody};
 
     ghost Value = { BodyView };
 
@@ -42,6 +46,8 @@ impl Body {
         requires parameters { parameters ≤ length variables }
         requires labels { LabelsDiffer lines }
         requires end { EndsInTerminator lines }
+        requires mentions { MentionsItsVariables (record { function = function; parameters = parameters; variables = variables; lines = lines }) }
+        requires scopes { HasScopes (record { function = function; parameters = parameters; variables = variables; lines = lines }) }
         ensures { result ≡ record { function = function; parameters = parameters; variables = variables; lines = lines } }
     {
         Body {
@@ -79,6 +85,8 @@ impl Body {
         ensures value { result.now ≡ self.now.lines }
         ensures labels { LabelsDiffer result.now }
         ensures end { EndsInTerminator result.now }
+        ensures mentions { MentionsItsVariables self.now }
+        ensures scopes { HasScopes self.now }
     {
         self.lines.as_slice()
     }

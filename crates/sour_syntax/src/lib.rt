@@ -15,12 +15,12 @@ mod program;
 mod trap;
 
 pub use body::Body;
-pub use expression::{Expr, Simple};
+pub use expression::{Expr, Op, Simple};
 pub use instruction::{Instr, Line};
 pub use job::Job;
 pub use label::Label;
 pub use list::List;
-pub use literal::{FunId, Literal, Value};
+pub use literal::{FunId, Literal, Value, VarId};
 pub use names::Names;
 pub use program::{Function, Program, Version};
 pub use trap::Trap;

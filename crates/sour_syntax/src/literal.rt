@@ -2,6 +2,10 @@
 #[derive(Clone, Copy, Debug, PartialEq, Eq)]
 pub struct FunId(pub u32);
 
+/// The number of a variable: its place among the variables of its body, counted from 0.
+#[derive(Clone, Copy, Debug, PartialEq, Eq)]
+pub struct VarId(pub u32);
+
 /// A value that a text can spell.
 #[derive(Clone, Copy, Debug, PartialEq, Eq)]
 pub enum Literal {

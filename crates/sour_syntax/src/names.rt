@@ -1,7 +1,9 @@
-ghost use Rattle.std.specs.Prelude.{◌≡◌, [], length};
+ghost use Rattle.std.specs.Prelude.{◌≡◌, ◌^◌, ◌<◌, [], ◌∷◌, ◌++◌, Some, None, length, slice_get, Contains, IfOk, OnErr, IfSome, IfNone};
+ghost use Rattle.sour_syntax.specs.Names.{Numbers};
 
+use crate::literal::VarId;
 use indexmap::IndexSet;
-use std::alloc::Global;
+use std::alloc::{AllocError, Global};
 use std::marker::Model;
 
 /// The names of a body's variables, each once, in the order of their numbers. Contracts see the list
@@ -37,5 +39,15 @@ impl Names {
         ensures { result ≡ length self.now }
     {
         self.names.len()
+    }
+
+    /// The number of a name, which is put behind the others where it isn't there yet.
+    pub fn add(&mut self, name: Vec<u8>) -> Result<VarId, AllocError>
+        requires { length self.old < 2 ^ 32 }
+        ensures ok { IfOk result (λ x. Numbers self.old self.new name.items x) }
+        ensures err { OnErr result (self.new ≡ self.old) }
+    {
+        let (place, _) = self.names.insert_full(name)?;
+        Ok(VarId(place as u32))
     }
 }

@@ -1,0 +1,113 @@
+-- Which variables are in scope where.
+use Rattle.std.specs.Prelude.{◌≡◌, ◌+◌, ◌-◌, ◌<◌, ℕ, zero, suc, Bool, true, false, List, [], ◌∷◌, ◌++◌, Some, length, Contains, replicate, slice_get, slice_set}
+use Rattle.std.specs.List.{AllByRecursion}
+use Rattle.sour_syntax.specs.declared.literal.VarId.{VarId}
+use Rattle.sour_syntax.specs.declared.expression.Simple.{Simple}
+use Rattle.sour_syntax.specs.declared.expression.Simple.TheVariants as simple
+use Rattle.sour_syntax.specs.declared.expression.Expr.{Expr}
+use Rattle.sour_syntax.specs.declared.expression.Expr.TheVariants as expr
+use Rattle.sour_syntax.specs.declared.instruction.Instr.{Instr}
+use Rattle.sour_syntax.specs.declared.instruction.Instr.TheVariants.{Var, Assign, Print, Read, Return, Stop}
+use Rattle.sour_syntax.specs.declared.instruction.Line.{Line}
+use Rattle.sour_syntax.specs.BodyView.{BodyView}
+use Rattle.sour_syntax.specs.Labels.{from_label, first_label}
+
+-- for each variable of a body, by its number, whether it is in scope
+abbrev pub Scope : Type 0
+Scope = List Bool
+
+-- the variables of an operand
+abbrev pub simple_variables : Simple → List VarId
+simple_variables (simple.Lit literal) = []
+simple_variables (simple.Var x) = x ∷ []
+
+-- the variables of an expression
+abbrev pub variables_of_expr : Expr → List VarId
+variables_of_expr (expr.Plain a) = simple_variables a
+variables_of_expr (expr.Not a) = simple_variables a
+variables_of_expr (expr.Binary op a b) = simple_variables a ++ simple_variables b
+
+-- the variables that must be in scope before an instruction
+abbrev pub needed : Instr → List VarId
+needed (Var x e) = variables_of_expr e
+needed (Assign x e) = x ∷ variables_of_expr e
+needed (Print e) = variables_of_expr e
+needed (Read x) = []
+needed (Return e) = variables_of_expr e
+needed Stop = []
+
+-- the variables that an instruction declares, which must not be in scope before it
+abbrev pub declared_by : Instr → List VarId
+declared_by (Var x e) = x ∷ []
+declared_by (Assign x e) = []
+declared_by (Print e) = []
+declared_by (Read x) = []
+declared_by (Return e) = []
+declared_by Stop = []
+
+-- the variables that an instruction mentions, in the order in which they are written
+abbrev pub mentioned : Instr → List VarId
+mentioned (Var x e) = x ∷ variables_of_expr e
+mentioned (Assign x e) = x ∷ variables_of_expr e
+mentioned (Print e) = variables_of_expr e
+mentioned (Read x) = x ∷ []
+mentioned (Return e) = variables_of_expr e
+mentioned Stop = []
+
+-- the scope behind an instruction
+abbrev pub scope_after : Instr → Scope → Scope
+scope_after (Var x e) scope = slice_set scope x.0 true
+scope_after (Assign x e) scope = scope
+scope_after (Print e) scope = scope
+scope_after (Read x) scope = slice_set scope x.0 true
+scope_after (Return e) scope = scope
+scope_after Stop scope = scope
+
+-- the labels that may follow an instruction, where this one is that of the next line
+abbrev pub followers : Instr → List ℕ → List (List ℕ)
+followers (Var x e) next = next ∷ []
+followers (Assign x e) next = next ∷ []
+followers (Print e) next = next ∷ []
+followers (Read x) next = next ∷ []
+followers (Return e) next = []
+followers Stop next = []
+
+-- the scope at the first line: the parameters
+abbrev pub first_scope : BodyView → Scope
+first_scope body = replicate body.parameters true ++ replicate (length body.variables - body.parameters) false
+
+-- a line at a label, with the lines behind it
+pub record IsLineAt (body : BodyView) (label : List ℕ) (line : Line) (rest : List Line) : Type 0 where
+  pub stands : from_label label body.lines ≡ line ∷ rest
+
+-- a path of so many instructions leads from the first line to this label, and gives it this scope
+abbrev pub HasScope : BodyView → ℕ → List ℕ → Scope → Type 0
+HasScope body zero label scope = (label ≡ first_label body.lines) × (scope ≡ first_scope body)
+HasScope body (suc count) label scope =
+    (from : List ℕ) × (before : Scope) × (line : Line) × (rest : List Line)
+    × HasScope body count from before × IsLineAt body from line rest
+    × Contains (followers line.instr (first_label rest)) label × (scope ≡ scope_after line.instr before)
+
+-- a variable is in a scope, or isn't
+abbrev pub IsInScope : Scope → VarId → Type 0
+IsInScope scope x = slice_get scope x.0 ≡ Some true
+
+abbrev pub IsOutOfScope : Scope → VarId → Type 0
+IsOutOfScope scope x = slice_get scope x.0 ≡ Some false
+
+-- an instruction may stand where this is the scope
+pub record IsFine (instr : Instr) (scope : Scope) : Type 0 where
+  pub needs : AllByRecursion (IsInScope scope) (needed instr)
+  pub declares : AllByRecursion (IsOutOfScope scope) (declared_by instr)
+
+-- each label has one scope whatever path leads to it, and in it the instruction there may stand
+pub record HasScopes (body : BodyView) : Type 0 where
+  pub one : (m n : ℕ) (label : List ℕ) (scope other : Scope)
+      → HasScope body m label scope → HasScope body n label other → scope ≡ other
+  pub fine : (count : ℕ) (label : List ℕ) (scope : Scope) (line : Line) (rest : List Line)
+      → HasScope body count label scope → IsLineAt body label line rest → IsFine line.instr scope
+
+-- each variable that a line mentions is one of the body's
+abbrev pub MentionsItsVariables : BodyView → Type 0
+MentionsItsVariables body =
+    AllByRecursion (λ line. AllByRecursion (λ x. x.0 < length body.variables) (mentioned line.instr)) body.lines
