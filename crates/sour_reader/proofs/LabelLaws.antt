@@ -27,6 +27,7 @@ automatic_label-injective m n small_m small_n is =
     let digits : decimal m ≡ decimal n = cc in
     decimal_injective m n small_m small_n digits
 
+-- the label of a place is none of those of later places
 later_labels : (place later : ℕ) (label : List ℕ) (lines : List Line) → label ≡ automatic_label place → place < later → later + length lines < 2 ^ 64 → HasLabels later lines → AllByRecursion (λ (other : Line). other.label ≢ label) lines
 later_labels place later label [] is before small labels = tt
 later_labels place later label (line ∷ lines) is before small labels = (

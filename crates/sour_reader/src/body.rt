@@ -16,7 +16,7 @@ use sour_tokens::{Token, TokenLines};
 use std::alloc::Global;
 
 /// The most instructions that a version has.
-pub const MAX_INSTRUCTIONS: u32 = 4096;
+const MAX_INSTRUCTIONS: u32 = 4096;
 
 /// The instruction that is next in the text, with the label of its place.
 fn read_instruction<'a>(
@@ -28,7 +28,8 @@ fn read_instruction<'a>(
     ensures label { IfOk result (λ line. line.label ≡ automatic_label place) }
     ensures found { IfOk result (λ line. BeginsWithOnly lines.old line.instr lines.new) }
     ensures unplaced { IsErrOf result TextFault.Unplaced →
-        (instr : Instr) (after : Listed (Listed (Listed ℕ))) → BeginsWithInstr lines.old instr after → ⊥ }
+        (instr : Instr) (after : Listed (Listed (Listed ℕ))) →
+        BeginsWithInstr lines.old instr after → ⊥ }
 {
     take_line(lines, tokens)?;
     let Some(instr) = instruction_of(tokens.as_slice()) else {
@@ -49,7 +50,8 @@ pub fn read_body<'a>(
     ensures limit { IfOk result (λ body. length body ≤ 4096) }
     ensures labels { IfOk result (λ body. LabelsDiffer body) }
     ensures end { IfOk result (λ body. EndsInTerminator body) }
-    ensures unplaced { IsErrOf result TextFault.Unplaced → (body : Listed Line) (after : Listed (Listed (Listed ℕ))) →
+    ensures unplaced { IsErrOf result TextFault.Unplaced →
+        (body : Listed Line) (after : Listed (Listed (Listed ℕ))) →
         BeginsWithBody lines.old 0 body after → length body ≤ 4096 → ⊥ }
 {
     let mut body = Vec::new(alloc);

@@ -27,7 +27,8 @@ fn read_headings<'a>(
     ensures found { IfOk result (λ version. (name : Listed ℕ) (after : Listed (Listed (Listed ℕ))) →
         BeginsWithHeadings lines.old name after ↔ ((name ≡ version) × HasTokenLines lines.new after)) }
     ensures unplaced { IsErrOf result TextFault.Unplaced →
-        (name : Listed ℕ) (after : Listed (Listed (Listed ℕ))) → BeginsWithHeadings lines.old name after → ⊥ }
+        (name : Listed ℕ) (after : Listed (Listed (Listed ℕ))) →
+        BeginsWithHeadings lines.old name after → ⊥ }
 {
     take_line(lines, tokens)?;
     if !is_function_heading(tokens.as_slice()) {
@@ -45,7 +46,8 @@ fn read_end<'a>(lines: &mut TokenLines<'a>, tokens: &mut Vec<Token<'a>>) -> Resu
     ensures found { OnOk result ((after : Listed (Listed (Listed ℕ))) →
         HasTokenLines lines.old (function_end ∷ after) ↔ HasTokenLines lines.new after) }
     ensures unplaced { IsErrOf result TextFault.Unplaced →
-        (after : Listed (Listed (Listed ℕ))) → HasTokenLines lines.old (function_end ∷ after) → ⊥ }
+        (after : Listed (Listed (Listed ℕ))) →
+        HasTokenLines lines.old (function_end ∷ after) → ⊥ }
 {
     take_line(lines, tokens)?;
     if is_function_end(tokens.as_slice()) {
@@ -82,7 +84,8 @@ pub fn read_job(alloc: Global, bytes: &[u8]) -> Result<Job, TextFault>
         Reads bytes.now program inputs ↔ ((program ≡ job.program.value) × (inputs ≡ job.inputs))) }
     ensures limit { IfOk result (λ job. length job.inputs ≤ 4096) }
     ensures unplaced { IsErrOf result TextFault.Unplaced →
-        (program : ProgramView) (inputs : Listed (Listed Literal)) → Reads bytes.now program inputs → ⊥ }
+        (program : ProgramView) (inputs : Listed (Listed Literal)) →
+        Reads bytes.now program inputs → ⊥ }
 {
     let mut lines = TokenLines::new(bytes);
     let mut tokens = Vec::new(alloc);

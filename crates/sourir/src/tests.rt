@@ -125,3 +125,19 @@ fn each_write_may_fail(rt: HostRuntime) -> Result<(), Fail> {
     }
     Ok(())
 }
+
+#[test]
+fn a_port_may_fail_early(rt: HostRuntime) -> Result<(), Fail> {
+    let alloc = rt.alloc();
+    let words = strings(alloc, &["run"])?;
+    let mut source = MemorySource::new(bytes(alloc, SEVEN)?, 10, one(alloc, 2)?);
+    let mut sink = ample_sink(alloc)?;
+    assert_eq!(rt; sourir(alloc, words.as_slice(), &mut source, &mut sink), 4);
+    assert_eq!(rt; sink.taken(), b"fault read\n".as_slice());
+
+    let mut source = MemorySource::new(bytes(alloc, SEVEN)?, 10, Vec::new(alloc));
+    let mut sink = MemorySink::new(alloc, 4096, 4096, one(alloc, 1)?)?;
+    assert_eq!(rt; sourir(alloc, words.as_slice(), &mut source, &mut sink), 5);
+    assert!(rt; sink.taken().is_empty());
+    Ok(())
+}

@@ -2,7 +2,7 @@ use Rattle.std.proofs.Common.{◌<◌, length, Err, sym, ap, ◌∙◌, arith}
 use Rattle.std.proofs.lemmas.Bool.{false≢true}
 use Rattle.sour_syntax.specs.Body.{IsTerminator}
 use Rattle.sour_reader.proofs.Faults.{unplaced_from_unplaced}
-use Rattle.sour_reader.proofs.Fronts.{body_so_far_more, whole_body, whole_body_labels, no_whole_body, longer_body}
+use Rattle.sour_reader.proofs.Bodies.{body_so_far_more, whole_body, whole_body_labels, no_whole_body, longer_body}
 use Rattle.sour_reader.proofs.LabelLaws.{EndsInTerminator-push}
 use Rattle.sour_reader.proofs.body.read_body.Goals as goal
 
