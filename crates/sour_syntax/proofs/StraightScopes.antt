@@ -103,8 +103,8 @@ same_place : (body : BodyView) (m n : ℕ) (label : List ℕ) (scope other : Sco
     → LeadsTo body m label scope → LeadsTo body n label other → m ≡ n
 same_place body m n label scope other differ at_m at_n =
     let one : drop m body.lines ≡ drop n body.lines =
-        sym (from_label-first_label-drop body.lines m differ at_m.within) ∙ ap (λ l. from_label l body.lines) (sym at_m.stands ∙ at_n.stands)
-        ∙ from_label-first_label-drop body.lines n differ at_n.within in
+    sym (from_label-first_label-drop body.lines m differ at_m.within) ∙ ap (λ l. from_label l body.lines) (sym at_m.stands ∙ at_n.stands)
+    ∙ from_label-first_label-drop body.lines n differ at_n.within in
     omega (arith, at_m.within, at_n.within, length-drop m body.lines, length-drop n body.lines, ap length one)
 
 -- lines that follow one another have scopes where each may stand in what those before it leave

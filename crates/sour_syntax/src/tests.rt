@@ -2,7 +2,7 @@ ghost use Rattle.std.specs.Prelude.{◌≡◌, IfOk};
 
 use crate::{
     Body, Expr, FunId, Function, Instr, Label, Line, List, Literal, Names, Program, Simple, Trap,
-    Version,
+    VarId, Version,
 };
 use std::alloc::{AllocError, Global};
 use std::test::Fail;
@@ -77,5 +77,28 @@ fn a_program_gives_its_functions(rt: HostRuntime) -> Result<(), Fail> {
 
 #[test]
 fn traps_have_their_numbers(rt: HostRuntime) {
-    assert_eq!(rt; Trap::OutputFull.number(), 9);
+    for (trap, number) in [
+        (Trap::BadType, 1),
+        (Trap::Overflow, 2),
+        (Trap::ZeroDivisor, 3),
+        (Trap::InputEnd, 8),
+        (Trap::OutputFull, 9),
+    ] {
+        assert_eq!(rt; trap.number(), number);
+    }
+}
+
+#[test]
+fn names_are_numbered_in_the_order_of_first_mention(rt: HostRuntime) -> Result<(), Fail> {
+    let mut names = Names::new(rt.alloc());
+    for (name, number) in [("b", 0), ("a", 1), ("b", 0), ("ab", 2), ("a", 1)] {
+        assert!(rt; names.len() < 1024);
+        let number = VarId(number);
+        assert_eq!(rt;
+            names.add(Vec::from_slice(rt.alloc(), name.as_bytes())?)?,
+            number
+        );
+    }
+    assert_eq!(rt; names.len(), 3);
+    Ok(())
 }
