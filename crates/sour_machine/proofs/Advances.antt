@@ -1,18 +1,23 @@
 -- What the loop over the lines of main keeps, and what its answers say.
-use Rattle.std.proofs.Common.{◌≡◌, ◌≢◌, ℕ, suc, ◌+◌, ◌<◌, List, [], Bool, true, false, Some, IsSome, ◌⊎◌, Result, Ok, Err, get_or, length, drop, refl, sym, ap, ◌∙◌, subst, inl, inr, arith}
-use Rattle.std.specs.List.{slice_get}
+use Rattle.std.proofs.Common.{◌≡◌, ◌≢◌, ℕ, suc, ◌+◌, ◌<◌, List, [], Bool, true, false, Some, IsSome, ◌⊎◌, Result, Ok, Err, get_or, length, drop, Contains, Option, None, ◌-◌, ◌≤◌, ◌++◌, ◌∷◌, replicate, refl, sym, ap, ◌∙◌, subst, inl, inr, arith}
+use Rattle.std.specs.List.{AllByRecursion, slice_get}
 use Rattle.std.proofs.lemmas.Option.{slice_get-get_or}
+use Rattle.std.proofs.lemmas.List.{length-replicate}
 use Rattle.std.specs.Result.{OnOk, OnErr, is_err}
 use Rattle.sour_syntax.specs.declared.instruction.Instr.{Instr}
 use Rattle.sour_syntax.specs.declared.instruction.Line.{Line}
 use Rattle.sour_syntax.specs.declared.literal.Literal.{Literal}
-use Rattle.sour_syntax.specs.Body.{LabelsDiffer, IsTerminator, EndsInTerminator}
+use Rattle.sour_syntax.specs.declared.program.Version.{Version}
+use Rattle.sour_syntax.specs.BodyView.{BodyView}
+use Rattle.sour_syntax.specs.Labels.{LabelsDiffer, first_label}
+use Rattle.sour_syntax.specs.Scopes.{followers, mentioned, IsLineAt, HasScopes, MentionsItsVariables}
+use Rattle.sour_syntax.specs.Terminator.{EndsInTerminator}
 use Rattle.sour_syntax.specs.Program.{ProgramView}
-use Rattle.sour_semantics.specs.State.{State}
-use Rattle.sour_semantics.specs.Step.{text_choice, act, step}
-use Rattle.sour_semantics.specs.Run.{TakesTurn, IsAtBudget}
+use Rattle.sour_semantics.specs.State.{Environment, text, State}
+use Rattle.sour_semantics.specs.Step.{text_choice, act, step, version_of, lines_of, lines_of_version}
+use Rattle.sour_semantics.specs.Run.{TakesTurn, IsAtBudget, empty_environment, variables_of, variables_of_version, start}
 use Rattle.sour_semantics.proofs.Places.{step-at_place}
-use Rattle.sour_syntax.proofs.LabelPlaces.{lt-EndsInTerminator, EndsInTerminator-next}
+use Rattle.sour_syntax.proofs.LabelPlaces.{from_label-first_label-drop, drop-slice_get, lt-EndsInTerminator, EndsInTerminator-next}
 use Rattle.sour_semantics.proofs.Runs.{text_run-suc}
 use Rattle.sour_machine.specs.declared.moment.Moment.{Moment}
 use Rattle.sour_machine.specs.declared.report.End.{End}
@@ -20,8 +25,10 @@ use Rattle.sour_machine.specs.declared.report.End.TheVariants.{Returned, Stopped
 use Rattle.sour_machine.specs.declared.run.Advance.{Advance}
 use Rattle.sour_machine.specs.declared.run.Advance.TheVariants as answer
 use Rattle.sour_machine.specs.End.{ending_of, is_memory}
-use Rattle.sour_machine.specs.Instruction.{ActsAs, ComesTo, AlwaysTakesTurn, NeverTakesTurn}
-use Rattle.sour_machine.specs.Moment.{main_lines, main_label, main_frame, state_at, run_at, StandsAtLine}
+use Rattle.sour_machine.specs.Instruction.{IsReady, ActsAs, GoesFurther, ComesTo, AlwaysTakesTurn, NeverTakesTurn}
+use Rattle.sour_machine.specs.Moment.{body_of, main_body, main_lines, main_label, main_frame, state_at, run_at, StandsAtLine, Stands}
+use Rattle.sour_machine.specs.Scope.{scope_of}
+use Rattle.sour_machine.proofs.Scopes.{All-at, Contains-followers, scope_of-empty}
 use Rattle.sour_machine.specs.Run.{RunView, GoesOn, Tells, IsAtRest}
 
 -- clauses on a result, by the test of its variant
@@ -49,11 +56,11 @@ pub record IsAt (program : ProgramView) (moment : Moment) (line : Line) : Type 0
 
 -- the line that the loop reads
 pub IsAt-lines : (lines : List Line) (program : ProgramView) (moment : Moment) (default : Line) → lines ≡ main_lines program → LabelsDiffer lines → EndsInTerminator lines
-    → moment.end ≡ Cut → StandsAtLine program moment → IsAt program moment (get_or lines moment.place default)
+    → moment.end ≡ Cut → StandsAtLine program moment.place moment.env → IsAt program moment (get_or lines moment.place default)
 IsAt-lines lines program moment default is differ terminated going stands =
     let Differ : List Line → Type 0 = LabelsDiffer in
     let Ends : List Line → Type 0 = EndsInTerminator in
-    let within : moment.place < length (main_lines program) = lt-EndsInTerminator (main_lines program) moment.place (stands (subst Ends is terminated) going) in
+    let within : moment.place < length (main_lines program) = lt-EndsInTerminator (main_lines program) moment.place (stands.line (subst Ends is terminated)) in
     record {
       going = going;
       differ = subst Differ is differ;
@@ -61,14 +68,79 @@ IsAt-lines lines program moment default is differ terminated going stands =
       found = slice_get-get_or (main_lines program) moment.place default within ∙ ap (λ it. Some (get_or it moment.place default)) (sym is);
     }
 
+-- the line stands at its label
+IsLineAt-place : (program : ProgramView) (moment : Moment) (line : Line) → IsAt program moment line
+    → IsLineAt (main_body program) (main_label program moment.place) line (drop (moment.place + 1) (main_lines program))
+IsLineAt-place program moment line at = record {
+  stands = from_label-first_label-drop (main_lines program) moment.place at.differ at.within ∙ drop-slice_get (main_lines program) moment.place line at.found;
+}
+
+-- each variable that the line needs has a value
+pub IsReady-line : (program : ProgramView) (moment : Moment) (line : Line) → IsAt program moment line → HasScopes (main_body program) → MentionsItsVariables (main_body program)
+    → StandsAtLine program moment.place moment.env → IsReady line.instr moment.env
+IsReady-line program moment line at scopes mentions stands =
+    let body = main_body program in
+    let Mentions : ℕ → Type 0 = λ count. AllByRecursion (λ x. x.0 < count) (mentioned line.instr) in
+    let Line_mentions : Line → Type 0 = λ line. AllByRecursion (λ x. x.0 < length body.variables) (mentioned line.instr) in
+    record {
+      needs = (scopes.fine stands.count (main_label program moment.place) (scope_of moment.env) line (drop (moment.place + 1) body.lines) stands.path (IsLineAt-place program moment line at)).needs;
+      mentions = subst Mentions (sym stands.row) (All-at Line_mentions body.lines moment.place line at.found mentions);
+    }
+
+lines-body : (version : Option Version) → (body_of version).lines ≡ lines_of_version version
+lines-body None = refl
+lines-body (Some version) = refl
+
+variables-body : (version : Option Version) → (body_of version).variables ≡ variables_of_version version
+variables-body None = refl
+variables-body (Some version) = refl
+
+-- a run stands at the first line of main where none of its variables has a value
+pub StandsAtLine-start : (program : ProgramView) (body : BodyView) (environment : Environment) → body ≡ main_body program → body.parameters ≡ 0
+    → environment ≡ empty_environment (length body.variables) → StandsAtLine program 0 environment
+StandsAtLine-start program body environment is none empty =
+    let count : ℕ = length (main_body program).variables in
+    let parameters : (main_body program).parameters ≡ 0 = ap (λ (b : BodyView). b.parameters) (sym is) ∙ none in
+    let begun : environment ≡ empty_environment count = empty ∙ ap (λ (b : BodyView). empty_environment (length b.variables)) is in
+    let all : count - 0 ≡ count = omega arith in
+    record {
+      line = λ terminated. terminated;
+      count = 0;
+      path = (
+        refl,
+        ap scope_of begun ∙ scope_of-empty count ∙ ap (λ left. replicate left false) (sym all)
+            ∙ ap (λ n. replicate n true ++ replicate (count - n) false) (sym parameters),
+      );
+      row = ap length begun ∙ length-replicate count None;
+    }
+
+-- the state there is the start
+pub state_at-start : (program : ProgramView) (input : List Literal) (body : BodyView) (environment : Environment) → body ≡ main_body program
+    → environment ≡ empty_environment (length body.variables)
+    → state_at program input (record { place = 0; env = environment; read = 0; output = []; turns = 0; end = Cut }) ≡ start program input
+state_at-start program input body environment is empty =
+    let version = version_of (slice_get program.functions program.main.0) 0 in
+    let begun : environment ≡ empty_environment (length (variables_of program (text program.main 0))) =
+    empty ∙ ap (λ (b : BodyView). empty_environment (length b.variables)) is ∙ ap (λ names. empty_environment (length names)) (variables-body version) in
+    ap (λ (env : Environment). state_at program input (record { place = 0; env = env; read = 0; output = []; turns = 0; end = Cut })) begun
+    ∙ ap (λ lines. record (start program input) { frames = (record { code = text program.main 0; label = first_label lines; environment = empty_environment (length (variables_of program (text program.main 0))); waits = None }) ∷ [] }) (lines-body version)
+
 step-state_at : (program : ProgramView) (input : List Literal) (moment : Moment) (line : Line) → IsAt program moment line
-    → step program text_choice (state_at program input moment) ≡ act program text_choice (main_frame program moment.place) line.instr (main_label program (moment.place + 1)) (state_at program input moment)
+    → step program text_choice (state_at program input moment) ≡ act program text_choice (main_frame program moment.place moment.env) line.instr (main_label program (moment.place + 1)) (state_at program input moment)
 step-state_at program input moment line at =
-    step-at_place program text_choice (state_at program input moment) (main_frame program moment.place) [] moment.place line
-    (ap ending_of at.going) refl refl at.differ at.within at.found
+    let place = moment.place in
+    let frame = main_frame program place moment.env in
+    let s = state_at program input moment in
+    let same : main_lines program ≡ lines_of program (text program.main 0) = lines-body (version_of (slice_get program.functions program.main.0) 0) in
+    let Differ : List Line → Type 0 = LabelsDiffer in
+    let Within : List Line → Type 0 = λ lines. place < length lines in
+    let Found : List Line → Type 0 = λ lines. slice_get lines place ≡ Some line in
+    step-at_place program text_choice s frame [] place line
+    (ap ending_of at.going) refl (ap (λ lines. first_label (drop place lines)) same) (subst Differ same at.differ) (subst Within same at.within) (subst Found same at.found)
+    ∙ ap (λ lines. act program text_choice frame line.instr (first_label (drop (place + 1) lines)) s) (sym same)
 
 -- one instruction more
-pub GoesOn-act : (program : ProgramView) (input : List Literal) (old mid new : Moment) (line : Line) → IsAt program mid line → ActsAs line.instr mid new
+pub GoesOn-act : (program : ProgramView) (input : List Literal) (old mid new : Moment) (line : Line) → IsAt program mid line → ActsAs input line.instr mid new
     → GoesOn (run_at program input true old) (run_at program input true mid) → GoesOn (run_at program input true old) (run_at program input true new)
 GoesOn-act program input old mid new line at acts on = record {
   program = refl;
@@ -77,7 +149,7 @@ GoesOn-act program input old mid new line at acts on = record {
   reached = text_run-suc program on.steps (state_at program input old)
       ∙ ap (step program text_choice) on.reached
       ∙ step-state_at program input mid line at
-      ∙ sym (acts program input);
+      ∙ sym (acts program);
   entered = λ was. refl;
   before_main = λ outside. cc;
 }
@@ -114,7 +186,7 @@ TakesTurn-always : (program : ProgramView) (input : List Literal) (moment : Mome
 TakesTurn-always program input moment line at always =
     let more : (step program text_choice (state_at program input moment)).turns ≡ moment.turns + 1 =
     ap (λ (s : State). s.turns) (step-state_at program input moment line at)
-    ∙ always program text_choice (main_frame program moment.place) (main_label program (moment.place + 1)) (state_at program input moment) in
+    ∙ always program text_choice (main_frame program moment.place moment.env) (main_label program (moment.place + 1)) (state_at program input moment) in
     omega (arith, more)
 
 -- a run that would take a turn beyond its budget
@@ -134,24 +206,40 @@ any_program : ProgramView
 any_program = record { functions = []; main = record { 0 = 0 } }
 
 -- the turns that an instruction takes
-pub turns-always : (instr : Instr) (old new : Moment) → ActsAs instr old new → AlwaysTakesTurn instr → new.turns ≡ old.turns + 1
-turns-always instr old new acts always =
-    ap (λ (s : State). s.turns) (acts any_program [])
-    ∙ always any_program text_choice (main_frame any_program old.place) (main_label any_program (old.place + 1)) (state_at any_program [] old)
+pub turns-always : (input : List Literal) (instr : Instr) (old new : Moment) → ActsAs input instr old new → AlwaysTakesTurn instr → new.turns ≡ old.turns + 1
+turns-always input instr old new acts always =
+    ap (λ (s : State). s.turns) (acts any_program)
+    ∙ always any_program text_choice (main_frame any_program old.place old.env) (main_label any_program (old.place + 1)) (state_at any_program input old)
 
-pub turns-never : (instr : Instr) (old new : Moment) → ActsAs instr old new → NeverTakesTurn instr → new.turns ≡ old.turns
-turns-never instr old new acts never =
-    ap (λ (s : State). s.turns) (acts any_program [])
-    ∙ never any_program text_choice (main_frame any_program old.place) (main_label any_program (old.place + 1)) (state_at any_program [] old)
+pub turns-never : (input : List Literal) (instr : Instr) (old new : Moment) → ActsAs input instr old new → NeverTakesTurn instr → new.turns ≡ old.turns
+turns-never input instr old new acts never =
+    ap (λ (s : State). s.turns) (acts any_program)
+    ∙ never any_program text_choice (main_frame any_program old.place old.env) (main_label any_program (old.place + 1)) (state_at any_program input old)
 
--- behind an instruction after which the run goes on there is a line
-pub StandsAtLine-act : (program : ProgramView) (old new : Moment) (line : Line) → IsAt program old line → ComesTo line.instr old.place new.place new.end
-    → StandsAtLine program old → StandsAtLine program new
-StandsAtLine-act program old new line at comes stands = λ terminated going.
-    let Comes : End → Type 0 = ComesTo line.instr old.place new.place in
-    let next : (new.place ≡ old.place + 1) × (IsTerminator line.instr → ⊥) = subst Comes going comes in
-    let Ends : ℕ → Type 0 = λ place. EndsInTerminator (drop place (main_lines program)) in
-    subst Ends (sym next.0) (EndsInTerminator-next (main_lines program) old.place line at.found next.1 (stands terminated at.going))
+-- behind an instruction after which the run goes on there is a line, and the path goes on to it
+StandsAtLine-act : (program : ProgramView) (old new : Moment) (line : Line) → IsAt program old line → GoesFurther line.instr old new
+    → StandsAtLine program old.place old.env → StandsAtLine program new.place new.env
+StandsAtLine-act program old new line at further stands =
+    let lines = main_lines program in
+    let rest = drop (old.place + 1) lines in
+    let Ends : ℕ → Type 0 = λ place. EndsInTerminator (drop place lines) in
+    let Follows : ℕ → Type 0 = λ place. Contains (followers line.instr (first_label rest)) (main_label program place) in
+    let follow : Follows new.place = subst Follows (sym further.place) (Contains-followers line.instr (first_label rest) further.follows) in
+    record {
+      line = λ terminated. subst Ends (sym further.place) (EndsInTerminator-next lines old.place line at.found further.follows (stands.line terminated));
+      count = suc stands.count;
+      path = (main_label program old.place, scope_of old.env, line, rest, stands.path, IsLineAt-place program old line at, follow, further.scope);
+      row = further.row ∙ stands.row;
+    }
+
+pub Stands-act : (program : ProgramView) (input : List Literal) (old new : Moment) (line : Line) → IsAt program old line → ComesTo line.instr old new new.end → new.read ≤ length input
+    → StandsAtLine program old.place old.env → Stands program input new
+Stands-act program input old new line at comes within stands =
+    let Comes : End → Type 0 = ComesTo line.instr old new in
+    record {
+      within = within;
+      at_line = λ going. StandsAtLine-act program old new line at (subst Comes going comes) stands;
+    }
 
 rests_on : (program : ProgramView) (budget : ℕ) (s : State) → IsAtBudget program budget s → IsSome s.ending ⊎ TakesTurn program s
 rests_on program budget s (inl ended) = inl ended.0
@@ -164,7 +252,7 @@ IsAtRest-Tells answer.MoreTurns budget run told = inr (told.0.entered, rests_on 
 IsAtRest-Tells answer.Memory budget run told = inl told
 
 -- no instruction finds that memory is wanting
-pub has_memory-act : (instr : Instr) (old new : ℕ) (end : End) → ComesTo instr old new end → end ≢ Memory
+pub has_memory-act : (instr : Instr) (old new : Moment) (end : End) → ComesTo instr old new end → end ≢ Memory
 has_memory-act instr old new (Returned value) comes is = cc
 has_memory-act instr old new Stopped comes is = cc
 has_memory-act instr old new (Trapped trap) comes is = cc

@@ -1,3 +1,5 @@
+mod Evaluations
 mod Instructions
+mod Scopes
 mod Advances
 pub mod Rests

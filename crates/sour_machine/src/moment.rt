@@ -1,3 +1,4 @@
+use crate::env::Env;
 use crate::output::Output;
 use crate::report::End;
 
@@ -6,6 +7,10 @@ use crate::report::End;
 pub(crate) struct Moment {
     /// The place of the next line in `main`, counted from 0.
     pub(crate) place: usize,
+    /// The variables of `main`.
+    pub(crate) env: Env,
+    /// How many values of the input were read so far.
+    pub(crate) read: usize,
     pub(crate) output: Output,
     /// The turns taken so far.
     pub(crate) turns: u64,

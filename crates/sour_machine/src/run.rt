@@ -3,7 +3,8 @@ ghost use Rattle.sour_semantics.specs.Run.{start};
 ghost use Rattle.sour_machine.specs.End.{ending_of};
 ghost use Rattle.sour_machine.specs.Run.{GoesOn, Tells, IsAtRest};
 
-use crate::advance::advance;
+use crate::advance::{advance, body_of_main};
+use crate::env::Env;
 use crate::moment::Moment;
 use crate::output::Output;
 use crate::report::{End, Report};
@@ -41,11 +42,11 @@ impl Model for Run {
 
     ghost Value = { RunView };
 
-    ghost use Rattle.sour_machine.specs.Moment.{run_at, StandsAtLine};
+    ghost use Rattle.sour_machine.specs.Moment.{run_at, Stands};
 
     ghost view = { λ run. run_at run.program.value run.input run.entered run.moment };
 
-    ghost invariant = { λ run. StandsAtLine run.program.value run.moment };
+    ghost invariant = { λ run. Stands run.program.value run.input run.moment };
 }
 
 impl Run {
@@ -60,8 +61,11 @@ impl Run {
         }) }
     {
         let input = List::from_vec(Vec::from_slice(alloc, input)?);
+        let variables = body_of_main(&program).variables().len();
         let moment = Moment {
             place: 0,
+            env: Env::new(alloc, variables)?,
+            read: 0,
             output: Output::new(alloc),
             turns: 0,
             end: End::Cut,
@@ -98,7 +102,12 @@ impl Run {
         }
         self.entered = true;
         let budget = self.moment.turns + turns;
-        advance(&self.program, &mut self.moment, budget)
+        advance(
+            &self.program,
+            self.input.as_slice(),
+            &mut self.moment,
+            budget,
+        )
     }
 
     /// The report on this run, as that of the input with this number, counted from 1. It takes no memory.
@@ -118,6 +127,7 @@ impl Run {
             ..
         } = self;
         let Moment {
+            read,
             output,
             turns,
             end,
@@ -127,7 +137,7 @@ impl Run {
             input,
             output: output.into_list(),
             end,
-            read: 0,
+            read: read as u64,
             turns,
             calls: if entered { 1 } else { 0 },
         }

@@ -17,7 +17,6 @@ use Rattle.sour_tokens.specs.Token.{IsDigits}
 digit_below : (b : ℕ) → is_ascii_digit b ≡ true → digit_value b < 10
 digit_below b digit = grind (arith, nat_tests)
 
--- each byte that is an ASCII digit is a digit in base ten
 all_digits : (bytes : List ℕ) → AllPass is_ascii_digit bytes → AllDigits 10 bytes
 all_digits [] pass = tt
 all_digits (b ∷ bytes) pass =

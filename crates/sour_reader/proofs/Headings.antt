@@ -17,7 +17,6 @@ no_function text first between begins other name after h = other (sym ((begins f
 pub no_second_line : (text : List ℕ) (first : List (List ℕ)) (between : List ℕ) → BeginsWithLine text first between → ((line : List (List ℕ)) (others : List (List (List ℕ))) → HasTokenLines between (line ∷ others) → ⊥) → (name : List ℕ) (after : List (List (List ℕ))) → BeginsWithHeadings text name after → ⊥
 no_second_line text first between begins none name after h = none (version_heading name) after ((begins function_heading (version_heading name ∷ after)).0 h.whole).1
 
--- the second line is the heading of the version, and then come the lines after it
 second_line : (text : List ℕ) (first : List (List ℕ)) (between : List ℕ) (second : List (List ℕ)) (rest : List ℕ) → BeginsWithLine text first between → BeginsWithLine between second rest → (name : List ℕ) (after : List (List (List ℕ))) → BeginsWithHeadings text name after → (version_heading name ≡ second) × HasTokenLines rest after
 second_line text first between second rest begins goes_on name after h =
     (goes_on (version_heading name) after).0 ((begins function_heading (version_heading name ∷ after)).0 h.whole).1

@@ -22,7 +22,6 @@ record SplitsInputs (line : List (List ℕ)) (rest : List ℕ) (inputs : List (L
   line_is : line ≡ codes "input" ∷ []
   more : HasEachInput rest others
 
--- the first of the inputs that lines spell is spelled by the first line
 first_input : (line : List (List ℕ)) (rest : List ℕ) (inputs : List (List Literal)) (lines : List (List (List ℕ))) → HasTokenLines rest lines → SpellsEachInput inputs (line ∷ lines) → SplitsInputs line rest inputs
 first_input line rest [] lines has spelled = absurd spelled
 first_input line rest (input ∷ others) lines has spelled = record {
@@ -32,7 +31,6 @@ first_input line rest (input ∷ others) lines has spelled = record {
   more = record { lines = lines; whole = has; spelled = spelled.1 };
 }
 
--- every list of inputs of a text that has a line splits so
 split_inputs : (text : List ℕ) (line : List (List ℕ)) (rest : List ℕ) (inputs : List (List Literal)) → IsNext text line rest → HasEachInput text inputs → SplitsInputs line rest inputs
 split_inputs text line rest inputs next has =
     let first = (next has.lines).0 has.whole in

@@ -25,11 +25,9 @@ EndIs text rest = (after : List (List (List ℕ))) → HasTokenLines text (funct
 abbrev pub InputsAre : List ℕ → List (List Literal) → Type 0
 InputsAre text given = (inputs : List (List Literal)) → HasInputs text inputs ↔ (inputs ≡ given)
 
--- a text that reads as something begins with headings
 headings_of : (text : List ℕ) (program : ProgramView) (inputs : List (List Literal)) (reads : Reads text program inputs) → BeginsWithHeadings text reads.2.version (reads.2.instructions ++ function_end ∷ reads.2.rest)
 headings_of text program inputs (lines, has, reads) = record { whole = subst (HasTokenLines text) reads.whole has; named = reads.named }
 
--- after its headings come instructions
 body_of : (text between : List ℕ) (version : List ℕ) (program : ProgramView) (inputs : List (List Literal)) (reads : Reads text program inputs) → HeadingsAre text version between → BeginsWithBody between 0 reads.2.lines (function_end ∷ reads.2.rest)
 body_of text between version program inputs reads headings =
     let h = (headings reads.2.version (reads.2.instructions ++ function_end ∷ reads.2.rest)).0 (headings_of text program inputs reads) in
@@ -48,7 +46,6 @@ pub none_at_end : (text version between : List ℕ) (lines : List Line) (later :
 none_at_end text version between lines later headings body none program inputs reads =
     none reads.2.rest ((body reads.2.lines (function_end ∷ reads.2.rest)).0 (body_of text between version program inputs reads headings)).1
 
--- after the end of its function come its inputs, and its program is that of the headings and instructions
 inputs_of : (text version between : List ℕ) (lines : List Line) (later rest : List ℕ) → HeadingsAre text version between → BodyIs between lines later → EndIs later rest → (program : ProgramView) (inputs : List (List Literal)) → Reads text program inputs → (program ≡ main_program version lines) × HasInputs rest inputs
 inputs_of text version between lines later rest headings body end program inputs reads =
     let h = (headings reads.2.version (reads.2.instructions ++ function_end ∷ reads.2.rest)).0 (headings_of text program inputs reads) in

@@ -3,8 +3,8 @@ use Rattle.std.proofs.Common.{◌≡◌, ◌≢◌, ℕ, suc, ◌+◌, ◌<◌, 
 use Rattle.std.specs.Prelude.{⊤, decimal}
 use Rattle.std.specs.List.{AllByRecursion}
 use Rattle.std.proofs.lemmas.Fmt.{decimal_injective}
-use Rattle.sour_syntax.specs.Body.{LabelsDiffer, IsTerminator, EndsInTerminator}
-use Rattle.sour_syntax.specs.Labels.{automatic_label}
+use Rattle.sour_syntax.specs.Labels.{LabelsDiffer, automatic_label}
+use Rattle.sour_syntax.specs.Terminator.{IsTerminator, EndsInTerminator}
 use Rattle.sour_syntax.specs.declared.instruction.Line.{Line}
 
 -- the lines have the labels of their places, the first that of this place
@@ -27,7 +27,6 @@ automatic_label-injective m n small_m small_n is =
     let digits : decimal m ≡ decimal n = cc in
     decimal_injective m n small_m small_n digits
 
--- the label of a place is none of those of later places
 later_labels : (place later : ℕ) (label : List ℕ) (lines : List Line) → label ≡ automatic_label place → place < later → later + length lines < 2 ^ 64 → HasLabels later lines → AllByRecursion (λ (other : Line). other.label ≢ label) lines
 later_labels place later label [] is before small labels = tt
 later_labels place later label (line ∷ lines) is before small labels = (

@@ -1,4 +1,3 @@
-pub mod Bodies
 pub mod Digits
 pub mod Faults
 pub mod Fronts
@@ -9,3 +8,4 @@ pub mod LabelLaws
 pub mod Lists
 pub mod Prefixes
 pub mod Programs
+pub mod PlainLines

@@ -1,6 +1,6 @@
 -- How the instructions of a version are spelled, one a line.
 use Rattle.std.specs.Prelude.{◌≡◌, ℕ, suc, List, [], ◌∷◌, ⊤}
-use Rattle.sour_syntax.specs.Body.{IsTerminator}
+use Rattle.sour_syntax.specs.Terminator.{IsTerminator}
 use Rattle.sour_syntax.specs.Labels.{automatic_label}
 use Rattle.sour_syntax.specs.declared.instruction.Line.{Line}
 use Rattle.sour_reader.specs.Instruction.{SpellsInstr}

@@ -31,8 +31,7 @@ pub fn is_function_heading(tokens: &[Token]) -> bool
 /// The name that a token is.
 fn token_name<'a>(token: &Token<'a>) -> Option<&'a [u8]>
     requires { IsOfItsKind token.now }
-    ensures { (name : List ℕ) →
-        ((spelling token.now ≡ name) × IsName name) ↔ (option_copied result ≡ Some name) }
+    ensures { (name : List ℕ) → ((spelling token.now ≡ name) × IsName name) ↔ (option_copied result ≡ Some name) }
 {
     match token {
         Token::Word(word) if is_name(word) => Some(*word),
@@ -45,8 +44,7 @@ fn token_name<'a>(token: &Token<'a>) -> Option<&'a [u8]>
 /// The name that these tokens are.
 fn name_of<'a>(tokens: &[Token<'a>]) -> Option<&'a [u8]>
     requires { AllByRecursion IsOfItsKind tokens.now }
-    ensures { (name : List ℕ) →
-        ((map spelling tokens.now ≡ name ∷ []) × IsName name) ↔ (option_copied result ≡ Some name) }
+    ensures { (name : List ℕ) → ((map spelling tokens.now ≡ name ∷ []) × IsName name) ↔ (option_copied result ≡ Some name) }
 {
     let (first, rest) = tokens.split_first()?;
     if rest.is_empty() {
@@ -59,8 +57,7 @@ fn name_of<'a>(tokens: &[Token<'a>]) -> Option<&'a [u8]>
 /// The name of the version that these tokens begin.
 pub fn version_name<'a>(tokens: &[Token<'a>]) -> Option<&'a [u8]>
     requires { AllByRecursion IsOfItsKind tokens.now }
-    ensures { (name : List ℕ) →
-        ((map spelling tokens.now ≡ version_heading name) × IsName name) ↔ (option_copied result ≡ Some name) }
+    ensures { (name : List ℕ) → ((map spelling tokens.now ≡ version_heading name) × IsName name) ↔ (option_copied result ≡ Some name) }
 {
     let (keyword, rest) = tokens.split_first()?;
     if is_word(keyword, b"ver") {

@@ -11,7 +11,7 @@ use sour_tokens::{Token, TokenLines};
 use std::alloc::Global;
 
 /// The most inputs that a text has.
-const MAX_INPUTS: usize = 4096;
+pub const MAX_INPUTS: usize = 4096;
 
 /// The inputs in the lines that are left of the text.
 fn read_each_input<'a>(
@@ -23,8 +23,7 @@ fn read_each_input<'a>(
         HasEachInput lines.old others ↔ (others ≡ inputs)) }
     ensures limit { IfOk result (λ inputs. length inputs ≤ 4096) }
     ensures unplaced { IsErrOf result TextFault.Unplaced →
-        (inputs : Listed (Listed Literal)) →
-        HasEachInput lines.old inputs → length inputs ≤ 4096 → ⊥ }
+        (inputs : Listed (Listed Literal)) → HasEachInput lines.old inputs → length inputs ≤ 4096 → ⊥ }
 {
     let mut inputs = List::new(alloc);
     while lines.next_line(tokens)? {

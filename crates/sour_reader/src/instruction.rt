@@ -5,7 +5,7 @@ ghost use Rattle.std.specs.List.{AllByRecursion};
 ghost use Rattle.sour_tokens.specs.Token.{spelling, IsOfItsKind};
 ghost use Rattle.sour_syntax.specs.declared.expression.Expr.{Expr};
 ghost use Rattle.sour_syntax.specs.declared.instruction.Instr.{Instr};
-ghost use Rattle.sour_syntax.specs.Body.{IsTerminator};
+ghost use Rattle.sour_syntax.specs.Terminator.{IsTerminator};
 ghost use Rattle.sour_reader.specs.Instruction.{SpellsExpr, SpellsInstr};
 
 use crate::kind::is_word;
@@ -46,7 +46,10 @@ pub fn is_terminator(instr: &Instr) -> bool
     ensures { IsTrue result ↔ IsTerminator instr.now }
 {
     match instr {
+        Instr::Var(_, _) => false,
+        Instr::Assign(_, _) => false,
         Instr::Print(_) => false,
+        Instr::Read(_) => false,
         Instr::Return(_) => true,
         Instr::Stop => true,
     }

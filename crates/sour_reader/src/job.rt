@@ -1,8 +1,13 @@
 //! A text as a whole.
 
-ghost use Rattle.std.specs.Prelude.{◌≡◌, ◌≤◌, ◌↔◌, ◌∷◌, ℕ, List as Listed, length, IfOk, OnOk, IsErrOf};
+ghost use Rattle.std.specs.Prelude.{◌≡◌, ◌<◌, ◌≤◌, ◌↔◌, ◌∷◌, ℕ, List as Listed, length, IfOk, OnOk, IsErrOf};
+ghost use Rattle.std.specs.List.{AllByRecursion};
+ghost use Rattle.sour_syntax.specs.declared.literal.VarId.{VarId};
+ghost use Rattle.sour_syntax.specs.Scopes.{mentioned};
+ghost use Rattle.sour_syntax.specs.declared.instruction.Line.{Line};
 ghost use Rattle.sour_tokens.specs.Text.{HasTokenLines};
-ghost use Rattle.sour_syntax.specs.Body.{LabelsDiffer, EndsInTerminator};
+ghost use Rattle.sour_syntax.specs.Labels.{LabelsDiffer};
+ghost use Rattle.sour_syntax.specs.Terminator.{EndsInTerminator};
 ghost use Rattle.sour_syntax.specs.Program.{ProgramView};
 ghost use Rattle.sour_syntax.specs.declared.literal.Literal.{Literal};
 ghost use Rattle.sour_reader.specs.Front.{BeginsWithHeadings};
@@ -27,8 +32,7 @@ fn read_headings<'a>(
     ensures found { IfOk result (λ version. (name : Listed ℕ) (after : Listed (Listed (Listed ℕ))) →
         BeginsWithHeadings lines.old name after ↔ ((name ≡ version) × HasTokenLines lines.new after)) }
     ensures unplaced { IsErrOf result TextFault.Unplaced →
-        (name : Listed ℕ) (after : Listed (Listed (Listed ℕ))) →
-        BeginsWithHeadings lines.old name after → ⊥ }
+        (name : Listed ℕ) (after : Listed (Listed (Listed ℕ))) → BeginsWithHeadings lines.old name after → ⊥ }
 {
     take_line(lines, tokens)?;
     if !is_function_heading(tokens.as_slice()) {
@@ -46,8 +50,7 @@ fn read_end<'a>(lines: &mut TokenLines<'a>, tokens: &mut Vec<Token<'a>>) -> Resu
     ensures found { OnOk result ((after : Listed (Listed (Listed ℕ))) →
         HasTokenLines lines.old (function_end ∷ after) ↔ HasTokenLines lines.new after) }
     ensures unplaced { IsErrOf result TextFault.Unplaced →
-        (after : Listed (Listed (Listed ℕ))) →
-        HasTokenLines lines.old (function_end ∷ after) → ⊥ }
+        (after : Listed (Listed (Listed ℕ))) → HasTokenLines lines.old (function_end ∷ after) → ⊥ }
 {
     take_line(lines, tokens)?;
     if is_function_end(tokens.as_slice()) {
@@ -61,6 +64,7 @@ fn read_end<'a>(lines: &mut TokenLines<'a>, tokens: &mut Vec<Token<'a>>) -> Resu
 fn main_program(alloc: Global, version: Label, lines: List<Line>) -> Result<Program, AllocError>
     requires labels { LabelsDiffer lines }
     requires end { EndsInTerminator lines }
+    requires mentions { AllByRecursion (λ (line : Line). AllByRecursion (λ (x : VarId). x.0 < 0) (mentioned line.instr)) lines }
     ensures { IfOk result (λ program. program ≡ main_program version lines) }
 {
     let main = FunId(0);
@@ -84,8 +88,7 @@ pub fn read_job(alloc: Global, bytes: &[u8]) -> Result<Job, TextFault>
         Reads bytes.now program inputs ↔ ((program ≡ job.program.value) × (inputs ≡ job.inputs))) }
     ensures limit { IfOk result (λ job. length job.inputs ≤ 4096) }
     ensures unplaced { IsErrOf result TextFault.Unplaced →
-        (program : ProgramView) (inputs : Listed (Listed Literal)) →
-        Reads bytes.now program inputs → ⊥ }
+        (program : ProgramView) (inputs : Listed (Listed Literal)) → Reads bytes.now program inputs → ⊥ }
 {
     let mut lines = TokenLines::new(bytes);
     let mut tokens = Vec::new(alloc);

@@ -1,6 +1,6 @@
-//! The second half of the reader: it reads a text's lines of tokens as a program and its inputs.
-//! This version reads texts of one function with one version, by this grammar, in which a line is
-//! one that has tokens:
+//! The second half of the reader: it reads the lines of tokens of a text as a program and its inputs.
+//! This version reads texts of one function with one version, by this grammar, in which a line is one
+//! that has tokens:
 //!
 //! ```text
 //! job         = function [inputs]
@@ -11,9 +11,8 @@
 //! inputs      = line "%" "inputs", at most 4096 lines "input"
 //! ```
 //!
-//! The last instruction of a version is `return` or `stop`, and none before it is. A number fits 64
-//! bits, with its sign. A name is a word of at most 64 bytes that begins with a letter and isn't
-//! reserved.
+//! The last instruction of a version is `return` or `stop`, and none before it is. A number fits 64 bits,
+//! with its sign. A name is a word of at most 64 bytes that begins with a letter and isn't reserved.
 #![tactic(auto)]
 
 mod body;

@@ -17,8 +17,7 @@ pub fn take_line<'a>(
     ensures line { OnOk result (BeginsWithLine lines.old (map spelling tokens.new.items) lines.new) }
     ensures kinds { OnOk result (AllByRecursion IsOfItsKind tokens.new.items) }
     ensures unplaced { IsErrOf result TextFault.Unplaced →
-        (line : List (List ℕ)) (others : List (List (List ℕ))) →
-        HasTokenLines lines.old (line ∷ others) → ⊥ }
+        (line : List (List ℕ)) (others : List (List (List ℕ))) → HasTokenLines lines.old (line ∷ others) → ⊥ }
 {
     if lines.next_line(tokens)? {
         Ok(())

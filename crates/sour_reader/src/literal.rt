@@ -29,7 +29,7 @@ fn magnitude_of(digits: &[u8]) -> Option<u64>
 /// The number that digits write after no sign; none where it doesn't fit.
 fn positive_of(digits: &[u8]) -> Option<i64>
     requires { IsDigits digits.now }
-    ensures { let number = pos (digits_value 10 digits.now) in SomeIff result (FitsSigned w64 number) number }
+    ensures { SomeIff result (FitsSigned w64 (pos (digits_value 10 digits.now))) (pos (digits_value 10 digits.now)) }
 {
     0i64.checked_add_unsigned(magnitude_of(digits)?)
 }
@@ -37,7 +37,7 @@ fn positive_of(digits: &[u8]) -> Option<i64>
 /// The number that digits write after `-`; none where it doesn't fit.
 fn negative_of(digits: &[u8]) -> Option<i64>
     requires { IsDigits digits.now }
-    ensures { let number = neg_ℤ (pos (digits_value 10 digits.now)) in SomeIff result (FitsSigned w64 number) number }
+    ensures { SomeIff result (FitsSigned w64 (neg_ℤ (pos (digits_value 10 digits.now)))) (neg_ℤ (pos (digits_value 10 digits.now))) }
 {
     0i64.checked_sub_unsigned(magnitude_of(digits)?)
 }
@@ -61,8 +61,7 @@ fn word_literal(word: &[u8]) -> Option<Literal>
 /// The literal that one token spells.
 fn token_literal(token: &Token) -> Option<Literal>
     requires { IsOfItsKind token.now }
-    ensures { (literal : Literal) →
-        SpellsLiteral literal (spelling token.now ∷ []) ↔ (result ≡ Some literal) }
+    ensures { (literal : Literal) → SpellsLiteral literal (spelling token.now ∷ []) ↔ (result ≡ Some literal) }
 {
     match token {
         Token::Word(word) => word_literal(word),
@@ -75,8 +74,7 @@ fn token_literal(token: &Token) -> Option<Literal>
 fn signed_literal(sign: &Token, digits: &Token) -> Option<Literal>
     requires sign { IsOfItsKind sign.now }
     requires digits { IsOfItsKind digits.now }
-    ensures { (literal : Literal) →
-        SpellsLiteral literal (spelling sign.now ∷ spelling digits.now ∷ []) ↔ (result ≡ Some literal) }
+    ensures { (literal : Literal) → SpellsLiteral literal (spelling sign.now ∷ spelling digits.now ∷ []) ↔ (result ≡ Some literal) }
 {
     if !is_symbol(sign, Symbol::Minus) {
         return None;
@@ -91,8 +89,7 @@ fn signed_literal(sign: &Token, digits: &Token) -> Option<Literal>
 /// The literal that these tokens spell.
 pub fn literal_of(tokens: &[Token]) -> Option<Literal>
     requires { AllByRecursion IsOfItsKind tokens.now }
-    ensures { (literal : Literal) →
-        SpellsLiteral literal (map spelling tokens.now) ↔ (result ≡ Some literal) }
+    ensures { (literal : Literal) → SpellsLiteral literal (map spelling tokens.now) ↔ (result ≡ Some literal) }
 {
     match tokens {
         [only] => token_literal(only),

@@ -5,7 +5,7 @@ ghost use Rattle.sour_tokens.specs.Token.{IsWord};
 ghost use Rattle.sour_reader.specs.Name.{IsName, is_reserved};
 
 /// The most bytes that a name has.
-const MAX_NAME_LENGTH: usize = 64;
+pub const MAX_NAME_LENGTH: usize = 64;
 
 /// Whether a word is reserved.
 fn is_reserved(word: &[u8]) -> bool

@@ -57,7 +57,7 @@ fn operand(instr: &Instr) -> Option<Literal> {
     match instr {
         Instr::Print(Expr::Plain(Simple::Lit(literal))) => Some(*literal),
         Instr::Return(Expr::Plain(Simple::Lit(literal))) => Some(*literal),
-        Instr::Stop => None,
+        _ => None,
     }
 }
 

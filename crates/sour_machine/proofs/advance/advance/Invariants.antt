@@ -1,17 +1,16 @@
-use Rattle.std.proofs.Common.{◌≢◌, ◌≤◌, ◌-◌, ℕ, List, true, length}
-use Rattle.sour_syntax.specs.declared.literal.Literal.{Literal}
+use Rattle.std.proofs.Common.{◌≢◌, ◌≤◌, ◌-◌, ℕ, true, length}
 use Rattle.sour_machine.specs.declared.report.End.{End}
 use Rattle.sour_machine.specs.declared.report.End.TheVariants.{Returned, Stopped, Trapped, Cut, Memory}
-use Rattle.sour_machine.specs.Moment.{run_at, StandsAtLine}
+use Rattle.sour_machine.specs.Moment.{run_at, Stands}
 use Rattle.sour_machine.specs.Run.{GoesOn}
 use Rattle.sour_machine.proofs.advance.advance.Given as goal
 
 abbrev pub invariant-loop-moment : goal.invariant-loop-moment
 invariant-loop-moment l = record {
-  goes_on : (input : List Literal) → GoesOn (run_at l.program input true l.initial.moment) (run_at l.program input true l.moment);
+  goes_on : GoesOn (run_at l.program l.input true l.initial.moment) (run_at l.program l.input true l.moment);
   within : l.moment.turns ≤ l.budget;
   has_memory : l.moment.end ≢ Memory;
-  stands : StandsAtLine l.program l.moment;
+  stands : Stands l.program l.input l.moment;
 }
 
 -- the lines that a run has before it, by how it ends

@@ -1,9 +1,10 @@
 use Rattle.std.proofs.Common.{◌<◌, length, Err, sym, ap, ◌∙◌, arith}
 use Rattle.std.proofs.lemmas.Bool.{false≢true}
-use Rattle.sour_syntax.specs.Body.{IsTerminator}
+use Rattle.sour_syntax.specs.Terminator.{IsTerminator}
 use Rattle.sour_reader.proofs.Faults.{unplaced_from_unplaced}
-use Rattle.sour_reader.proofs.Bodies.{body_so_far_more, whole_body, whole_body_labels, no_whole_body, longer_body}
+use Rattle.sour_reader.proofs.Fronts.{body_so_far_more, whole_body, whole_body_labels, no_whole_body, longer_body}
 use Rattle.sour_reader.proofs.LabelLaws.{EndsInTerminator-push}
+use Rattle.sour_reader.proofs.PlainLines.{AllByRecursion-push}
 use Rattle.sour_reader.proofs.body.read_body.Goals as goal
 
 pub returns-in_err-line-clause-unplaced : goal.returns-in_err-line-clause-unplaced
@@ -22,6 +23,11 @@ returns-then-is_last-clause-labels c =
     rw (c.from_vec.ensures, c.in_ok-push.ensures.items)
     (whole_body_labels _ _ _ _ c.in_ok-line.line c.loop-place.invariant c.in_ok-line.ensures.label c.loop-place-test.true)
 
+pub returns-then-is_last-clause-mentions : goal.returns-then-is_last-clause-mentions
+returns-then-is_last-clause-mentions c =
+    rw (c.from_vec.ensures, c.in_ok-push.ensures.items)
+    (AllByRecursion-push _ c.loop-place.body.items c.in_ok-line.line c.loop-place.invariant.mentions c.in_ok-line.ensures.mentions)
+
 pub returns-then-is_last-clause-end : goal.returns-then-is_last-clause-end
 returns-then-is_last-clause-end c =
     rw (c.from_vec.ensures, c.in_ok-push.ensures.items)
@@ -31,7 +37,7 @@ pub loop-place-preserved : goal.loop-place-preserved
 loop-place-preserved c =
     let goes_on : ¬ IsTerminator c.in_ok-line.line.instr = λ last. false≢true (sym c.if-is_last.false ∙ c.is_terminator-is_last.ensures.1 last) in
     rw c.in_ok-push.ensures.items
-    (body_so_far_more _ _ _ _ c.in_ok-line.line _ c.loop-place.invariant c.in_ok-line.ensures.label goes_on c.in_ok-line.ensures.found)
+    (body_so_far_more _ _ _ _ c.in_ok-line.line _ c.loop-place.invariant c.in_ok-line.ensures.label c.in_ok-line.ensures.mentions goes_on c.in_ok-line.ensures.found)
 
 pub returns-clause-unplaced : goal.returns-clause-unplaced
 returns-clause-unplaced c is body after begins limit =

@@ -1,4 +1,4 @@
-use Rattle.sour_reader.proofs.Bodies.{BodySoFar}
+use Rattle.sour_reader.proofs.Fronts.{BodySoFar}
 use Rattle.sour_reader.proofs.body.read_body.Given as goal
 
 abbrev pub invariant-loop-place : goal.invariant-loop-place

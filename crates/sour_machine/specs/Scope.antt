@@ -1,0 +1,14 @@
+-- Which variables of a frame have a value.
+use Rattle.std.specs.Prelude.{map, is_some}
+use Rattle.std.specs.List.{AllByRecursion}
+use Rattle.sour_syntax.specs.declared.expression.Expr.{Expr}
+use Rattle.sour_syntax.specs.Scopes.{Scope, IsInScope, variables_of_expr}
+use Rattle.sour_semantics.specs.State.{Environment}
+
+-- a variable is in scope where it has a value
+abbrev pub scope_of : Environment → Scope
+scope_of environment = map is_some environment
+
+-- each variable of an expression has a value
+abbrev pub HasValues : Environment → Expr → Type 0
+HasValues environment expr = AllByRecursion (IsInScope (scope_of environment)) (variables_of_expr expr)

@@ -1,0 +1,46 @@
+ghost use Rattle.std.specs.Prelude.{◌≡◌, ◌<◌, Some, length, slice_get, slice_set, IfOk};
+ghost use Rattle.std.specs.Option.{option_flatten};
+ghost use Rattle.sour_semantics.specs.Run.{empty_environment};
+
+use sour_syntax::{Value, VarId};
+use std::alloc::{AllocError, Global};
+use std::marker::Model;
+
+/// The values of the variables of a frame, by their numbers. Contracts see the language's environment.
+#[derive(Drop)]
+pub struct Env {
+    values: Vec<Option<Value>>,
+}
+
+impl Model for Env {
+    ghost use Rattle.sour_semantics.specs.State.{Environment};
+
+    ghost Value = { Environment };
+
+    ghost view = { λ env. env.values.items };
+}
+
+impl Env {
+    /// So many variables, none of which has a value.
+    pub fn new(alloc: Global, count: usize) -> Result<Env, AllocError>
+        ensures { IfOk result (λ env. env ≡ empty_environment count) }
+    {
+        let values = Vec::from_elem(alloc, None, count)?;
+        Ok(Env { values })
+    }
+
+    /// The value of a variable, where it has one.
+    pub fn get(&self, x: VarId) -> Option<Value>
+        ensures { result ≡ option_flatten (slice_get self.now x.0) }
+    {
+        self.values.get(x.0 as usize).copied().flatten()
+    }
+
+    /// Gives a variable a value.
+    pub fn set(&mut self, x: VarId, value: Value)
+        requires { x.0 < length self.old }
+        ensures { self.new ≡ slice_set self.old x.0 (Some value) }
+    {
+        self.values[x.0 as usize] = Some(value);
+    }
+}
