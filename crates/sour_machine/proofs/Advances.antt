@@ -1,5 +1,5 @@
 -- What the loop over the lines of main keeps, and what its answers say.
-use Rattle.std.proofs.Common.{◌≡◌, ◌≢◌, ℕ, suc, ◌+◌, ◌<◌, List, [], Bool, true, false, Some, IsSome, ◌⊎◌, Result, Ok, Err, get_or, length, drop, Contains, Option, None, ◌-◌, ◌≤◌, ◌++◌, ◌∷◌, replicate, refl, sym, ap, ◌∙◌, subst, inl, inr, arith}
+use Rattle.std.proofs.Common.{◌≡◌, ◌≢◌, ℕ, suc, ◌+◌, ◌<◌, List, [], Bool, true, false, Some, IsSome, ◌⊎◌, Result, Ok, Err, get_or, length, drop, Contains, Option, None, ◌-◌, ◌≤◌, ◌++◌, replicate, refl, sym, ap, ◌∙◌, subst, inl, inr, arith}
 use Rattle.std.specs.List.{AllByRecursion, slice_get}
 use Rattle.std.proofs.lemmas.Option.{slice_get-get_or}
 use Rattle.std.proofs.lemmas.List.{length-replicate}
@@ -15,7 +15,7 @@ use Rattle.sour_syntax.specs.Terminator.{EndsInTerminator}
 use Rattle.sour_syntax.specs.Program.{ProgramView}
 use Rattle.sour_semantics.specs.State.{Environment, text, State}
 use Rattle.sour_semantics.specs.Step.{text_choice, act, step, version_of, lines_of, lines_of_version}
-use Rattle.sour_semantics.specs.Run.{TakesTurn, IsAtBudget, empty_environment, variables_of, variables_of_version, start}
+use Rattle.sour_semantics.specs.Run.{TakesTurn, IsAtBudget, empty_environment, variables_of_version}
 use Rattle.sour_semantics.proofs.Places.{step-at_place}
 use Rattle.sour_syntax.proofs.LabelPlaces.{from_label-first_label-drop, drop-slice_get, lt-EndsInTerminator, EndsInTerminator-next}
 use Rattle.sour_semantics.proofs.Runs.{text_run-suc}
@@ -113,17 +113,6 @@ StandsAtLine-start program body environment is none empty =
       );
       row = ap length begun ∙ length-replicate count None;
     }
-
--- the state there is the start
-pub state_at-start : (program : ProgramView) (input : List Literal) (body : BodyView) (environment : Environment) → body ≡ main_body program
-    → environment ≡ empty_environment (length body.variables)
-    → state_at program input (record { place = 0; env = environment; read = 0; output = []; turns = 0; end = Cut }) ≡ start program input
-state_at-start program input body environment is empty =
-    let version = version_of (slice_get program.functions program.main.0) 0 in
-    let begun : environment ≡ empty_environment (length (variables_of program (text program.main 0))) =
-    empty ∙ ap (λ (b : BodyView). empty_environment (length b.variables)) is ∙ ap (λ names. empty_environment (length names)) (variables-body version) in
-    ap (λ (env : Environment). state_at program input (record { place = 0; env = env; read = 0; output = []; turns = 0; end = Cut })) begun
-    ∙ ap (λ lines. record (start program input) { frames = (record { code = text program.main 0; label = first_label lines; environment = empty_environment (length (variables_of program (text program.main 0))); waits = None }) ∷ [] }) (lines-body version)
 
 step-state_at : (program : ProgramView) (input : List Literal) (moment : Moment) (line : Line) → IsAt program moment line
     → step program text_choice (state_at program input moment) ≡ act program text_choice (main_frame program moment.place moment.env) line.instr (main_label program (moment.place + 1)) (state_at program input moment)

@@ -27,6 +27,7 @@ fn number_of(whole: Option<i64>) -> Result<Value, Trap>
     }
 }
 
+/// The sum of two numbers.
 pub(crate) fn sum(a: Value, b: Value) -> Result<Value, Trap>
     ensures { on_numbers (λ x y. number (x +ℤ y)) a b ≡ result }
 {
@@ -34,6 +35,7 @@ pub(crate) fn sum(a: Value, b: Value) -> Result<Value, Trap>
     number_of(a.checked_add(b))
 }
 
+/// The first number less the second.
 pub(crate) fn difference(a: Value, b: Value) -> Result<Value, Trap>
     ensures { on_numbers (λ x y. number (x -ℤ y)) a b ≡ result }
 {
@@ -41,6 +43,7 @@ pub(crate) fn difference(a: Value, b: Value) -> Result<Value, Trap>
     number_of(a.checked_sub(b))
 }
 
+/// The product of two numbers.
 pub(crate) fn product(a: Value, b: Value) -> Result<Value, Trap>
     ensures { on_numbers (λ x y. number (x *ℤ y)) a b ≡ result }
 {
@@ -64,6 +67,7 @@ pub(crate) fn remainder(a: Value, b: Value) -> Result<Value, Trap>
     left_over(a, b)
 }
 
+/// The quotient of two numbers.
 fn divide(a: i64, b: i64) -> Result<Value, Trap>
     ensures { divided b (int_div a b) ≡ result }
 {
@@ -73,6 +77,7 @@ fn divide(a: i64, b: i64) -> Result<Value, Trap>
     number_of(a.checked_div(b))
 }
 
+/// What the quotient of two numbers leaves.
 fn left_over(a: i64, b: i64) -> Result<Value, Trap>
     ensures { divided b (a -ℤ (b *ℤ int_div a b)) ≡ result }
 {

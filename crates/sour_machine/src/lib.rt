@@ -20,3 +20,6 @@ pub use evaluation::eval;
 pub use report::{End, Report};
 pub use run::{Advance, Run};
 pub use text::value_text;
+
+#[cfg(test)]
+mod tests;

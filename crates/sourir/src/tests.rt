@@ -38,11 +38,24 @@ fn words_and_texts_give_their_answers(rt: HostRuntime) -> Result<(), Fail> {
         "fun main() # no parameters\n\nver v\n\tprint -9223372036854775808\nprint true\nstop\nend\n%inputs\ninput\ninput";
     let two_blocks =
         "input 1\n-9223372036854775808\ntrue\nstopped\ninput 2\n-9223372036854775808\ntrue\nstopped\n";
+    let overflows =
+        "fun main()\nver base\nprint -7 % 2\nvar x = 9223372036854775807 + 1\nreturn x\nend\n%inputs\ninput\n";
+    let reads = "fun main()\nver base\nread a\nreturn 0\nend\n%inputs\ninput\n";
+    let sums =
+        "fun main()\nver base\nread a\nvar b = a * 2\nread a\nb <- b - a\nprint b\nprint b == a\nreturn b < a\nend\n%inputs\ninput 5 -3\ninput 1 2 3\ninput true\n";
     let unplaced = "fault text 3 line 0 column 0\n";
     for (words, text, written, status) in [
         (["run"].as_slice(), SEVEN, SEVEN_BLOCK, 0),
         (["run"].as_slice(), without_inputs, "", 0),
         (["run"].as_slice(), two_inputs, two_blocks, 0),
+        (["run"].as_slice(), overflows, "input 1\n-1\ntrap 2\n", 1),
+        (["run"].as_slice(), reads, "input 1\ntrap 8\n", 1),
+        (
+            ["run"].as_slice(),
+            sums,
+            "input 1\n13\nfalse\nend false\ninput 2\n0\nfalse\nend true\ninput 3\ntrap 1\n",
+            1,
+        ),
         (["run"].as_slice(), "", unplaced, 3),
         (
             ["run"].as_slice(),

@@ -1,4 +1,4 @@
-use Rattle.std.proofs.Common.{◌+◌, refl}
+use Rattle.std.proofs.Common.{refl}
 use Rattle.sour_syntax.specs.declared.instruction.Instr.TheVariants.{Read}
 use Rattle.sour_syntax.specs.declared.literal.Value.TheVariants.{Plain}
 use Rattle.sour_machine.proofs.Scopes.{scope_of-set, row-set, ComesTo-going}
@@ -8,7 +8,7 @@ pub returns-in-Some-clause-comes : goal.returns-in-Some-clause-comes
 returns-in-Some-clause-comes c =
     let old = c.args.moment.now in
     let value = Plain c.in-Some.literal.now in
-    ComesTo-going (Read c.args.x) old (record old { place = old.place + 1; env = c.set.new.self; read = old.read + 1 }) old.end c.requires.going (record {
+    ComesTo-going (Read c.args.x) old _ old.end c.requires.going (record {
       place = refl;
       follows = λ end. end;
       scope = scope_of-set old.env c.set.new.self c.args.x.0 value c.set.ensures;
