@@ -1,10 +1,10 @@
 -- How the inputs of a text are read, one line at a time.
-use Rattle.std.proofs.Common.{◌≡◌, ◌≢◌, ◌↔◌, ℕ, ◌<◌, ◌≤◌, List, [], ◌∷◌, ◌++◌, length, length-append, append-nil, Result, Ok, Err, IfOk, refl, sym, ap, subst, ◌∙◌, arith}
-use Rattle.std.specs.Prelude.{codes}
+use Rattle.std.proofs.Common.{◌≡◌, ◌≢◌, ◌↔◌, ℕ, ◌<◌, ◌≤◌, List, [], ◌∷◌, ◌++◌, Some, None, length, length-append, append-nil, Result, Ok, Err, IfOk, refl, sym, ap, subst, ◌∙◌, arith}
 use Rattle.sour_tokens.specs.Text.{HasTokenLines}
 use Rattle.sour_syntax.specs.declared.literal.Literal.{Literal}
-use Rattle.sour_reader.specs.Inputs.{SpellsEachInput, SpellsInputs, inputs_heading}
+use Rattle.sour_reader.specs.Inputs.{SpellsInput, SpellsEachInput, SpellsInputs, inputs_heading}
 use Rattle.sour_reader.specs.Front.{HasEachInput, HasInputs}
+use Rattle.sour_reader.proofs.ValueLaws.{IsInputOf}
 use Rattle.sour_reader.proofs.Prefixes.{ReadsOn, reads_on_none, reads_on_more, reads_on_end}
 
 -- the lines of the text are this one and those of the rest
@@ -17,17 +17,19 @@ IsAtEnd text = (lines : List (List (List ℕ))) → HasTokenLines text lines ↔
 
 -- the inputs of a text that has a line: the first is spelled by it
 record SplitsInputs (line : List (List ℕ)) (rest : List ℕ) (inputs : List (List Literal)) : Type 0 where
+  first : List Literal
   others : List (List Literal)
-  is : inputs ≡ [] ∷ others
-  line_is : line ≡ codes "input" ∷ []
+  is : inputs ≡ first ∷ others
+  spelled : SpellsInput first line
   more : HasEachInput rest others
 
 first_input : (line : List (List ℕ)) (rest : List ℕ) (inputs : List (List Literal)) (lines : List (List (List ℕ))) → HasTokenLines rest lines → SpellsEachInput inputs (line ∷ lines) → SplitsInputs line rest inputs
 first_input line rest [] lines has spelled = absurd spelled
 first_input line rest (input ∷ others) lines has spelled = record {
+  first = input;
   others = others;
-  is = ap (λ first. first ∷ others) spelled.0.0;
-  line_is = spelled.0.1;
+  is = refl;
+  spelled = spelled.0;
   more = record { lines = lines; whole = has; spelled = spelled.1 };
 }
 
@@ -37,15 +39,19 @@ split_inputs text line rest inputs next has =
     first_input line rest inputs first.0 first.2 (subst (SpellsEachInput inputs) first.1 has.spelled)
 
 -- a line of an input
-pub next_input : (text : List ℕ) (line : List (List ℕ)) (rest : List ℕ) → IsNext text line rest → line ≡ codes "input" ∷ [] → ReadsOn (HasEachInput text) ([] ∷ []) (HasEachInput rest)
-next_input text line rest next line_is inputs = (to, from)
+pub next_input : (text : List ℕ) (line : List (List ℕ)) (rest : List ℕ) (input : List Literal) → IsNext text line rest → IsInputOf line (Some input) → ReadsOn (HasEachInput text) (input ∷ []) (HasEachInput rest)
+next_input text line rest input next spells inputs = (to, from)
   where
-    to : HasEachInput text inputs → (others : List (List Literal)) × (inputs ≡ [] ∷ others) × HasEachInput rest others
-    to has = let split = split_inputs text line rest inputs next has in (split.others, split.is, split.more)
+    to : HasEachInput text inputs → (others : List (List Literal)) × (inputs ≡ input ∷ others) × HasEachInput rest others
+    to has =
+        let split = split_inputs text line rest inputs next has in
+        let found = (spells split.first).0 split.spelled in
+        let same : split.first ≡ input = cc in
+        (split.others, split.is ∙ ap (λ it. it ∷ split.others) same, split.more)
 
-    from : (others : List (List Literal)) × (inputs ≡ [] ∷ others) × HasEachInput rest others → HasEachInput text inputs
+    from : (others : List (List Literal)) × (inputs ≡ input ∷ others) × HasEachInput rest others → HasEachInput text inputs
     from (others, is, more) =
-        let whole : HasEachInput text ([] ∷ others) = record { lines = line ∷ more.lines; whole = (next (line ∷ more.lines)).1 (more.lines, refl, more.whole); spelled = ((refl, line_is), more.spelled) } in
+        let whole : HasEachInput text (input ∷ others) = record { lines = line ∷ more.lines; whole = (next (line ∷ more.lines)).1 (more.lines, refl, more.whole); spelled = ((spells input).1 refl, more.spelled) } in
         subst (HasEachInput text) (sym is) whole
 
 -- no inputs, where no line is left
@@ -74,10 +80,10 @@ pub inputs_so_far_none : (text : List ℕ) → InputsSoFar text [] text
 inputs_so_far_none text = record { limit = omega arith; exact = reads_on_none (HasEachInput text) }
 
 -- one input more
-pub inputs_so_far_more : (text : List ℕ) (front : List (List Literal)) (between : List ℕ) (line : List (List ℕ)) (rest : List ℕ) → InputsSoFar text front between → length front < 4096 → IsNext between line rest → line ≡ codes "input" ∷ [] → InputsSoFar text (front ++ [] ∷ []) rest
-inputs_so_far_more text front between line rest so_far few next line_is = record {
-  limit = omega (arith, length-append front ([] ∷ []));
-  exact = reads_on_more (HasEachInput text) (HasEachInput between) (HasEachInput rest) front [] so_far.exact (next_input between line rest next line_is);
+pub inputs_so_far_more : (text : List ℕ) (front : List (List Literal)) (between : List ℕ) (line : List (List ℕ)) (rest : List ℕ) (input : List Literal) → InputsSoFar text front between → length front < 4096 → IsNext between line rest → IsInputOf line (Some input) → InputsSoFar text (front ++ input ∷ []) rest
+inputs_so_far_more text front between line rest input so_far few next spells = record {
+  limit = omega (arith, length-append front (input ∷ []));
+  exact = reads_on_more (HasEachInput text) (HasEachInput between) (HasEachInput rest) front input so_far.exact (next_input between line rest input next spells);
 }
 
 -- all inputs, where no line is left
@@ -87,10 +93,12 @@ whole_inputs text front rest so_far ended inputs =
     ((λ has. (exact.0 has).0 ∙ append-nil front), λ is. exact.1 (is ∙ sym (append-nil front), (ended []).1 refl))
 
 -- a line that spells no input
-pub no_input : (text : List ℕ) (front : List (List Literal)) (between : List ℕ) (line : List (List ℕ)) (rest : List ℕ) → InputsSoFar text front between → IsNext between line rest → line ≢ codes "input" ∷ [] → (inputs : List (List Literal)) → HasEachInput text inputs → ⊥
-no_input text front between line rest so_far next other inputs has =
+pub no_input : (text : List ℕ) (front : List (List Literal)) (between : List ℕ) (line : List (List ℕ)) (rest : List ℕ) → InputsSoFar text front between → IsNext between line rest → IsInputOf line None → (inputs : List (List Literal)) → HasEachInput text inputs → ⊥
+no_input text front between line rest so_far next spells inputs has =
     let more = (so_far.exact inputs).0 has in
-    other (split_inputs between line rest more.0 next more.2).line_is
+    let split = split_inputs between line rest more.0 next more.2 in
+    let found = (spells split.first).0 split.spelled in
+    cc
 
 -- a line after these inputs makes for more of them
 pub more_inputs : (text : List ℕ) (front : List (List Literal)) (between : List ℕ) (line : List (List ℕ)) (rest : List ℕ) → InputsSoFar text front between → IsNext between line rest → (inputs : List (List Literal)) → HasEachInput text inputs → length front < length inputs

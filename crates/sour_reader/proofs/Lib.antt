@@ -8,4 +8,12 @@ pub mod LabelLaws
 pub mod Lists
 pub mod Prefixes
 pub mod Programs
-pub mod PlainLines
+pub mod Numbering
+pub mod Steps
+pub mod Sharing
+pub mod Operands
+pub mod Operators
+pub mod Expressions
+pub mod Instructions
+pub mod ScopeLaws
+pub mod ValueLaws

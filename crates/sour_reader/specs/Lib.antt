@@ -1,7 +1,11 @@
 pub mod Name
 pub mod Literal
+pub mod Operator
+pub mod Variables
 pub mod Instruction
+pub mod Reading
 pub mod Version
+pub mod Scope
 pub mod Inputs
 pub mod Job
 pub mod Fault

@@ -5,13 +5,13 @@ use Rattle.sour_syntax.specs.Labels.{automatic_label}
 use Rattle.sour_syntax.specs.declared.instruction.Line.{Line}
 use Rattle.sour_reader.specs.Instruction.{SpellsInstr}
 
--- the lines of tokens spell these lines, which have automatic labels, the first of them that of this place
-abbrev pub SpellsLines : ℕ → List Line → List (List (List ℕ)) → Type 0
-SpellsLines place [] [] = ⊤
-SpellsLines place [] (tokens ∷ others) = ⊥
-SpellsLines place (line ∷ lines) [] = ⊥
-SpellsLines place (line ∷ lines) (tokens ∷ others) =
-    (line.label ≡ automatic_label place) × SpellsInstr line.instr tokens × SpellsLines (suc place) lines others
+-- where these are the names of the variables, the lines of tokens spell these lines, which have automatic labels, the first of them that of this place
+abbrev pub SpellsLines : List (List ℕ) → ℕ → List Line → List (List (List ℕ)) → Type 0
+SpellsLines variables place [] [] = ⊤
+SpellsLines variables place [] (tokens ∷ others) = ⊥
+SpellsLines variables place (line ∷ lines) [] = ⊥
+SpellsLines variables place (line ∷ lines) (tokens ∷ others) =
+    (line.label ≡ automatic_label place) × SpellsInstr variables line.instr tokens × SpellsLines variables (suc place) lines others
 
 -- the last instruction is a terminator, and none before it is
 abbrev pub EndsOnce : List Line → Type 0

@@ -9,7 +9,7 @@ ghost use Rattle.sour_reader.specs.Inputs.{inputs_heading};
 ghost use Rattle.sour_reader.specs.Job.{function_heading, version_heading, function_end};
 
 use crate::kind::{is_symbol, is_word};
-use crate::name::is_name;
+use crate::name::token_name;
 use sour_tokens::{Symbol, Token};
 
 /// Whether these tokens begin the function.
@@ -25,19 +25,6 @@ pub fn is_function_heading(tokens: &[Token]) -> bool
                 && is_symbol(close, Symbol::CloseParen)
         }
         _ => false,
-    }
-}
-
-/// The name that a token is.
-fn token_name<'a>(token: &Token<'a>) -> Option<&'a [u8]>
-    requires { IsOfItsKind token.now }
-    ensures { (name : List ℕ) → ((spelling token.now ≡ name) × IsName name) ↔ (option_copied result ≡ Some name) }
-{
-    match token {
-        Token::Word(word) if is_name(word) => Some(*word),
-        Token::Word(_) => None,
-        Token::Digits(_) => None,
-        Token::Symbol(_) => None,
     }
 }
 
@@ -85,17 +72,6 @@ pub fn is_inputs_heading(tokens: &[Token]) -> bool
 {
     match tokens {
         [percent, keyword] => is_symbol(percent, Symbol::Percent) && is_word(keyword, b"inputs"),
-        _ => false,
-    }
-}
-
-/// Whether these tokens are an input without values.
-pub fn is_input(tokens: &[Token]) -> bool
-    requires { AllByRecursion IsOfItsKind tokens.now }
-    ensures { IsTrue result ↔ (map spelling tokens.now ≡ codes "input" ∷ []) }
-{
-    match tokens {
-        [keyword] => is_word(keyword, b"input"),
         _ => false,
     }
 }

@@ -1,23 +1,22 @@
 //! A text as a whole.
 
-ghost use Rattle.std.specs.Prelude.{◌≡◌, ◌<◌, ◌≤◌, ◌↔◌, ◌∷◌, ℕ, List as Listed, length, IfOk, OnOk, IsErrOf};
-ghost use Rattle.std.specs.List.{AllByRecursion};
-ghost use Rattle.sour_syntax.specs.declared.literal.VarId.{VarId};
-ghost use Rattle.sour_syntax.specs.Scopes.{mentioned};
-ghost use Rattle.sour_syntax.specs.declared.instruction.Line.{Line};
+ghost use Rattle.std.specs.Prelude.{◌≡◌, ◌≤◌, ◌↔◌, ◌∷◌, [], ℕ, List as Listed, length, IfOk, OnOk, IsErrOf};
 ghost use Rattle.sour_tokens.specs.Text.{HasTokenLines};
 ghost use Rattle.sour_syntax.specs.Labels.{LabelsDiffer};
-ghost use Rattle.sour_syntax.specs.Terminator.{EndsInTerminator};
+ghost use Rattle.sour_syntax.specs.Scopes.{HasScopes};
+ghost use Rattle.sour_reader.specs.Variables.{mentions_of, Adds};
+ghost use Rattle.sour_reader.specs.Version.{EndsOnce};
 ghost use Rattle.sour_syntax.specs.Program.{ProgramView};
 ghost use Rattle.sour_syntax.specs.declared.literal.Literal.{Literal};
 ghost use Rattle.sour_reader.specs.Front.{BeginsWithHeadings};
-ghost use Rattle.sour_reader.specs.Job.{function_end, main_program, Reads};
+ghost use Rattle.sour_reader.specs.Job.{function_end, main_body, main_program, Reads};
 
 use crate::body::read_body;
 use crate::fault::TextFault;
 use crate::heading::{is_function_end, is_function_heading, version_name};
 use crate::inputs::read_inputs;
 use crate::lines::take_line;
+use crate::scopes::has_scopes;
 use sour_syntax::{Body, FunId, Function, Job, Label, Line, List, Names, Program, Version};
 use sour_tokens::{Token, TokenLines};
 use std::alloc::{AllocError, Global};
@@ -60,18 +59,25 @@ fn read_end<'a>(lines: &mut TokenLines<'a>, tokens: &mut Vec<Token<'a>>) -> Resu
     }
 }
 
-/// The program whose one function is main, with one version that has this name and these lines.
-fn main_program(alloc: Global, version: Label, lines: List<Line>) -> Result<Program, AllocError>
+/// The program whose one function is main, with one version that has this name, these variables and
+/// these lines.
+fn main_program(
+    alloc: Global,
+    version: Label,
+    names: Names,
+    lines: List<Line>,
+) -> Result<Program, AllocError>
     requires labels { LabelsDiffer lines }
-    requires end { EndsInTerminator lines }
-    requires mentions { AllByRecursion (λ (line : Line). AllByRecursion (λ (x : VarId). x.0 < 0) (mentioned line.instr)) lines }
-    ensures { IfOk result (λ program. program ≡ main_program version lines) }
+    requires ended { EndsOnce lines }
+    requires adds { Adds [] (mentions_of lines) names }
+    requires scopes { HasScopes (main_body names lines) }
+    ensures { IfOk result (λ program. program ≡ main_program version names lines) }
 {
     let main = FunId(0);
     let mut versions = List::new(alloc);
     versions.push(Version {
         name: version,
-        body: Body::new(main, 0, Names::new(alloc), lines),
+        body: Body::new(main, 0, names, lines),
     })?;
     let mut functions = List::new(alloc);
     functions.push(Function {
@@ -81,7 +87,7 @@ fn main_program(alloc: Global, version: Label, lines: List<Line>) -> Result<Prog
     Ok(Program::of_functions(functions, main))
 }
 
-/// The program and the inputs that a text reads as. One pass over the bytes.
+/// The program and the inputs that a text reads as. One pass over the bytes, and one over the lines.
 pub fn read_job(alloc: Global, bytes: &[u8]) -> Result<Job, TextFault>
     // What is read is this program and these inputs, and no others.
     ensures found { IfOk result (λ job. (program : ProgramView) (inputs : Listed (Listed Literal)) →
@@ -92,11 +98,15 @@ pub fn read_job(alloc: Global, bytes: &[u8]) -> Result<Job, TextFault>
 {
     let mut lines = TokenLines::new(bytes);
     let mut tokens = Vec::new(alloc);
+    let mut names = Names::new(alloc);
     let version = read_headings(alloc, &mut lines, &mut tokens)?;
-    let body = read_body(alloc, &mut lines, &mut tokens)?;
+    let body = read_body(alloc, &mut names, &mut lines, &mut tokens)?;
+    if !has_scopes(alloc, &names, body.as_slice())? {
+        return Err(TextFault::Unplaced);
+    }
     read_end(&mut lines, &mut tokens)?;
     let inputs = read_inputs(alloc, &mut lines, &mut tokens)?;
-    let program = Arc::new(alloc, main_program(alloc, version, body)?)?;
+    let program = Arc::new(alloc, main_program(alloc, version, names, body)?)?;
     Ok(Job { program, inputs })
 }
 

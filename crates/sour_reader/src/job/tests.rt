@@ -4,11 +4,14 @@ use std::test::Fail;
 
 #[test]
 fn reads_texts_of_the_form(rt: HostRuntime) -> Result<(), Fail> {
-    let texts: [&[u8]; 9] = [
+    let texts: [&[u8]; 12] = [
         b"fun main()\nver base\nprint 7\nreturn 0\nend\n%inputs\ninput\n",
         b"fun main()\nver base\nprint 7\nreturn 0\nend\n",
         b"fun main()\nver base\nprint 7\nreturn 0\nend",
         b"# a program\n\n fun main ( ) # main\nver\tbase\r\nprint 7\n\n\tstop\nend\n% inputs\n# none\n",
+        b"fun main()\nver base\nprint -7 % 2\nvar x = 9223372036854775807 + 1\nreturn x\nend\n%inputs\ninput\n",
+        b"fun main()\nver base\nread a\nreturn 0\nend\n%inputs\ninput\n",
+        b"fun main()\nver base\nstop\nend\n%inputs\ninput 5 -3 true\n",
         b"fun main()\nver base\nprint -9223372036854775808\nstop\nend\n",
         b"fun main()\nver base\nprint 9223372036854775807\nstop\nend\n",
         b"fun main()\nver base\nprint 00000000000000000000000000000007\nstop\nend\n",
@@ -23,7 +26,7 @@ fn reads_texts_of_the_form(rt: HostRuntime) -> Result<(), Fail> {
 
 #[test]
 fn refuses_other_texts(rt: HostRuntime) -> Result<(), Fail> {
-    let texts: [&[u8]; 21] = [
+    let texts: [&[u8]; 26] = [
         b"",
         b"fun main()\nver base\nprint 9223372036854775808\nstop\nend\n",
         b"fun main()\nver base\nprint -9223372036854775809\nstop\nend\n",
@@ -38,7 +41,12 @@ fn refuses_other_texts(rt: HostRuntime) -> Result<(), Fail> {
         b"fun main()\nver base\nlast: stop\nend\n",
         b"fun main()\nver base\nstop 0\nend\n",
         b"fun main()\nver base\nprint x\nstop\nend\n",
-        b"fun main()\nver base\nstop\nend\n%inputs\ninput 1\n",
+        b"fun main()\nver base\nvar x = 1\nvar x = 2\nstop\nend\n",
+        b"fun main()\nver base\nx <- 1\nstop\nend\n",
+        b"fun main()\nver base\nvar goto = 1\nstop\nend\n",
+        b"fun main()\nver base\nprint 1 + 2 + 3\nstop\nend\n",
+        b"fun main()\nver base\nvar x = 0\nx = 1\nstop\nend\n",
+        b"fun main()\nver base\nstop\nend\n%inputs\ninput a\n",
         b"fun main()\nver base\nstop\nend\ninput\n",
         b"fun main()\nver base\nstop\nend\n%inputs\ninput\n%inputs\n",
         b"fun main()\nver base\nstop\nend\nfun main()\n",

@@ -1,7 +1,7 @@
-use Rattle.std.proofs.Common.{◌≡◌, ◌∷◌, [], ◌<◌, length, map, codes, Err, sym, ap, ◌∙◌, arith}
-use Rattle.std.proofs.lemmas.Bool.{false≢true, OnTrue_at, OnFalse_at}
+use Rattle.std.proofs.Common.{◌<◌, length, Err, ap, arith}
+use Rattle.std.proofs.lemmas.Bool.{OnTrue_at, OnFalse_at}
 use Rattle.std.proofs.lemmas.List.Elements.{recursion_from_All}
-use Rattle.sour_tokens.specs.Token.{spelling, IsOfItsKind}
+use Rattle.sour_tokens.specs.Token.{IsOfItsKind}
 use Rattle.sour_reader.proofs.Faults.{no_token_from_unplaced}
 use Rattle.sour_reader.proofs.InputLaws.{inputs_so_far_more, whole_inputs, no_input, more_inputs, no_line}
 use Rattle.sour_reader.proofs.inputs.read_each_input.Goals as goal
@@ -11,8 +11,8 @@ returns-in_err-next_line-clause-unplaced c is inputs has limit =
     let fault = no_token_from_unplaced c.from_residual.result _ c.from_residual.ensures.1 is in
     no_line _ _ _ c.loop-inputs.invariant (c.in_err-next_line.ensures.no_token (ap Err fault)) inputs has
 
-pub is_input-requires : goal.is_input-requires
-is_input-requires c =
+pub input_of-requires : goal.input_of-requires
+input_of-requires c =
     rw c.as_slice.ensures.value
     (recursion_from_All IsOfItsKind c.next_line.new.tokens.items (OnTrue_at c.if-branch.true c.in_ok-next_line.ensures.kinds))
 
@@ -21,17 +21,17 @@ returns-then-len-ge-MAX_INPUTS-clause-unplaced c is inputs has limit =
     let more : length c.loop-inputs.inputs < length inputs = more_inputs _ _ _ _ _ c.loop-inputs.invariant (OnTrue_at c.if-branch.true c.in_ok-next_line.ensures.line) inputs has in
     omega arith
 
-pub returns-then-not-is_input-clause-unplaced : goal.returns-then-not-is_input-clause-unplaced
-returns-then-not-is_input-clause-unplaced c is inputs has limit =
+pub returns-in_default-clause-unplaced : goal.returns-in_default-clause-unplaced
+returns-in_default-clause-unplaced c is inputs has limit =
     no_input _ _ _ _ _ c.loop-inputs.invariant (OnTrue_at c.if-branch.true c.in_ok-next_line.ensures.line)
-    (λ line. false≢true (sym c.if-not-is_input.true ∙ c.is_input.ensures.1 (ap (map spelling) c.as_slice.ensures.value ∙ line))) inputs has
+    (rw c.as_slice.ensures.value at (rw c.in_default.is at c.in_ok-input.ensures)) inputs has
 
 pub loop-inputs-preserved : goal.loop-inputs-preserved
 loop-inputs-preserved c =
     let few : length c.loop-inputs.inputs < 4096 = omega arith in
-    let line : map spelling c.next_line.new.tokens.items ≡ codes "input" ∷ [] = rw c.as_slice.ensures.value at (c.is_input.ensures.0 c.if-not-is_input.false) in
-    rw (c.in_ok-push.ensures.ok, c.new.ensures)
-    (inputs_so_far_more _ _ _ _ _ c.loop-inputs.invariant few (OnTrue_at c.if-branch.true c.in_ok-next_line.ensures.line) line)
+    rw c.in_ok-push.ensures.ok
+    (inputs_so_far_more _ _ _ _ _ c.in-Some.input c.loop-inputs.invariant few (OnTrue_at c.if-branch.true c.in_ok-next_line.ensures.line)
+    (rw c.as_slice.ensures.value at (rw c.in-Some.is at c.in_ok-input.ensures)))
 
 pub returns-clause-found : goal.returns-clause-found
 returns-clause-found c =

@@ -1,0 +1,12 @@
+use Rattle.std.proofs.Common.{Some, None, map}
+use Rattle.sour_tokens.specs.Token.{spelling}
+use Rattle.sour_reader.proofs.Instructions.{assignment}
+use Rattle.sour_reader.proofs.instruction.assignment_of.Goals as goal
+
+pub returns-in-Some : goal.returns-in-Some
+returns-in-Some c =
+    (assignment c.args.names.now (spelling c.args.name.now) (map spelling c.args.behind.now) (Some (c.in-Some.x, c.in-Some.e)) c.setting_behind.new.names c.requires.begins (rw c.in-Some.is at c.in_ok-x.ensures))
+
+pub returns-in-None : goal.returns-in-None
+returns-in-None c =
+    (assignment c.args.names.now (spelling c.args.name.now) (map spelling c.args.behind.now) None c.setting_behind.new.names c.requires.begins (rw c.in-None.is at c.in_ok-x.ensures))
