@@ -24,6 +24,8 @@ pub(crate) fn takes_turn(instr: &Instr) -> bool
 }
 
 /// Carries out one instruction of a run on this input, or none where memory is wanting.
+///
+/// Most instructions set a variable. The functions of the others aren't inlined, so the loop stays small.
 pub(crate) fn act(moment: &mut Moment, input: &[Literal], instr: &Instr) -> Result<(), AllocError>
     requires going { moment.old.end ≡ End.Cut }
     requires place { moment.old.place + 1 < 2 ^ 64 }
@@ -66,6 +68,7 @@ fn set(moment: &mut Moment, x: VarId, expr: &Expr)
 }
 
 /// Takes the next value of the input into a variable.
+#[inline(never)]
 fn read(moment: &mut Moment, input: &[Literal], x: VarId)
     requires going { moment.old.end ≡ End.Cut }
     requires place { moment.old.place + 1 < 2 ^ 64 }
@@ -86,6 +89,7 @@ fn read(moment: &mut Moment, input: &[Literal], x: VarId)
 }
 
 /// Writes the text of a value on a line of its own, if the output has room for all of it.
+#[inline(never)]
 fn print(moment: &mut Moment, expr: &Expr) -> Result<(), AllocError>
     requires going { moment.old.end ≡ End.Cut }
     requires place { moment.old.place + 1 < 2 ^ 64 }
@@ -114,6 +118,7 @@ fn print(moment: &mut Moment, expr: &Expr) -> Result<(), AllocError>
 }
 
 /// Ends `main`, and with it the run.
+#[inline(never)]
 fn return_value(moment: &mut Moment, expr: &Expr)
     requires going { moment.old.end ≡ End.Cut }
     requires turns { moment.old.turns + 1 < 2 ^ 64 }

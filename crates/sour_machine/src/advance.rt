@@ -21,6 +21,7 @@ pub(crate) fn body_of_main(program: &Program) -> &Body
 
 /// Goes on with the run on this input until it has ended or would take a turn beyond this number of them,
 /// all of its turns counted.
+#[inline(never)]
 pub(crate) fn advance(
     program: &Program,
     input: &[Literal],

@@ -1,23 +1,35 @@
-ghost use Rattle.std.specs.Prelude.{◌≡◌, ℤ, ◌+ℤ◌, ◌-ℤ◌, ◌*ℤ◌, int_div, Result, FitsSigned, SomeIff};
+ghost use Rattle.std.specs.Prelude.{◌≡◌, ℤ, ◌-ℤ◌, ◌*ℤ◌, int_div, FitsSigned, SomeIff};
 ghost use Rattle.std.specs.Int.{w64};
-ghost use Rattle.sour_syntax.specs.declared.literal.Value.{Value};
-ghost use Rattle.sour_syntax.specs.declared.trap.Trap.{Trap};
-ghost use Rattle.sour_semantics.specs.Evaluation.{number, divided, on_numbers};
-ghost use Rattle.sour_machine.specs.Operands.{with_both};
+ghost use Rattle.sour_syntax.specs.declared.literal.Literal.TheVariants.{Number};
+ghost use Rattle.sour_syntax.specs.declared.literal.Value.TheVariants.{Plain};
+ghost use Rattle.sour_semantics.specs.Evaluation.{applied, number, divided};
 
-use sour_syntax::{Literal, Trap, Value};
+use crate::truths::truth;
+use sour_syntax::{Literal, Op, Trap, Value};
 
-/// The numbers that two values are, or the trap where one is none.
-pub(crate) fn numbers(a: Value, b: Value) -> Result<(i64, i64), Trap>
-    ensures { (f : ℤ → ℤ → Result Value Trap) → on_numbers f a b ≡ with_both f result }
+/// What an operator gives on two numbers.
+#[inline(always)]
+pub(crate) fn on_numbers(op: Op, a: i64, b: i64) -> Result<Value, Trap>
+    ensures { applied op (Plain (Number a)) (Plain (Number b)) ≡ result }
 {
-    match (a, b) {
-        (Value::Plain(Literal::Number(a)), Value::Plain(Literal::Number(b))) => Ok((a, b)),
-        _ => Err(Trap::BadType),
+    match op {
+        Op::Add => number_of(a.checked_add(b)),
+        Op::Sub => number_of(a.checked_sub(b)),
+        Op::Mul => number_of(a.checked_mul(b)),
+        Op::Div => divide(a, b),
+        Op::Rem => left_over(a, b),
+        Op::Eq => Ok(truth(a == b)),
+        Op::Ne => Ok(truth(a != b)),
+        Op::Lt => Ok(truth(a < b)),
+        Op::Le => Ok(truth(a <= b)),
+        Op::Gt => Ok(truth(a > b)),
+        Op::Ge => Ok(truth(a >= b)),
+        Op::And | Op::Or => Err(Trap::BadType),
     }
 }
 
 /// The value of a number, or the trap where it lies outside i64.
+#[inline(always)]
 fn number_of(whole: Option<i64>) -> Result<Value, Trap>
     ensures { (z : ℤ) → SomeIff whole (FitsSigned w64 z) z → number z ≡ result }
 {
@@ -27,47 +39,8 @@ fn number_of(whole: Option<i64>) -> Result<Value, Trap>
     }
 }
 
-/// The sum of two numbers.
-pub(crate) fn sum(a: Value, b: Value) -> Result<Value, Trap>
-    ensures { on_numbers (λ x y. number (x +ℤ y)) a b ≡ result }
-{
-    let (a, b) = numbers(a, b)?;
-    number_of(a.checked_add(b))
-}
-
-/// The first number less the second.
-pub(crate) fn difference(a: Value, b: Value) -> Result<Value, Trap>
-    ensures { on_numbers (λ x y. number (x -ℤ y)) a b ≡ result }
-{
-    let (a, b) = numbers(a, b)?;
-    number_of(a.checked_sub(b))
-}
-
-/// The product of two numbers.
-pub(crate) fn product(a: Value, b: Value) -> Result<Value, Trap>
-    ensures { on_numbers (λ x y. number (x *ℤ y)) a b ≡ result }
-{
-    let (a, b) = numbers(a, b)?;
-    number_of(a.checked_mul(b))
-}
-
-/// The quotient, rounded toward zero.
-pub(crate) fn quotient(a: Value, b: Value) -> Result<Value, Trap>
-    ensures { on_numbers (λ x y. divided y (int_div x y)) a b ≡ result }
-{
-    let (a, b) = numbers(a, b)?;
-    divide(a, b)
-}
-
-/// What the quotient leaves. It lies in i64 even where the quotient doesn't.
-pub(crate) fn remainder(a: Value, b: Value) -> Result<Value, Trap>
-    ensures { on_numbers (λ x y. divided y (x -ℤ (y *ℤ int_div x y))) a b ≡ result }
-{
-    let (a, b) = numbers(a, b)?;
-    left_over(a, b)
-}
-
-/// The quotient of two numbers.
+/// The quotient of two numbers, rounded toward zero.
+#[inline(always)]
 fn divide(a: i64, b: i64) -> Result<Value, Trap>
     ensures { divided b (int_div a b) ≡ result }
 {
@@ -77,7 +50,8 @@ fn divide(a: i64, b: i64) -> Result<Value, Trap>
     number_of(a.checked_div(b))
 }
 
-/// What the quotient of two numbers leaves.
+/// What the quotient of two numbers leaves. It lies in i64 even where the quotient doesn't.
+#[inline(always)]
 fn left_over(a: i64, b: i64) -> Result<Value, Trap>
     ensures { divided b (a -ℤ (b *ℤ int_div a b)) ≡ result }
 {

@@ -1,6 +1,8 @@
 ghost use Rattle.std.specs.Prelude.{◌≡◌, ◌<◌, Some, length, slice_get, slice_set, IfOk};
 ghost use Rattle.std.specs.Option.{option_flatten};
+ghost use Rattle.sour_syntax.specs.Scopes.{IsInScope};
 ghost use Rattle.sour_semantics.specs.Run.{empty_environment};
+ghost use Rattle.sour_machine.specs.Scope.{scope_of};
 
 use sour_syntax::{Value, VarId};
 use std::alloc::{AllocError, Global};
@@ -36,7 +38,20 @@ impl Env {
         self.values.get(x.0 as usize).copied().flatten()
     }
 
+    /// The value of a variable that has one.
+    #[inline(always)]
+    pub(crate) fn value(&self, x: VarId) -> &Value
+        requires { IsInScope (scope_of self.now) x }
+        ensures { slice_get self.now x.0 ≡ Some (Some result.now) }
+    {
+        match &self.values[x.0 as usize] {
+            Some(value) => value,
+            None => unreachable!(),
+        }
+    }
+
     /// Gives a variable a value.
+    #[inline(always)]
     pub fn set(&mut self, x: VarId, value: Value)
         requires { x.0 < length self.old }
         ensures { self.new ≡ slice_set self.old x.0 (Some value) }

@@ -1,56 +1,96 @@
-ghost use Rattle.std.specs.Prelude.{◌≡◌};
+ghost use Rattle.std.specs.Prelude.{◌≡◌, None};
 ghost use Rattle.std.specs.List.{AllByRecursion};
+ghost use Rattle.std.specs.Option.{option_zip};
 ghost use Rattle.sour_syntax.specs.Scopes.{IsInScope, simple_variables};
 ghost use Rattle.sour_semantics.specs.State.{Heap};
 ghost use Rattle.sour_semantics.specs.Evaluation.{eval, operand, applied};
+ghost use Rattle.sour_machine.specs.Operands.{number_in};
 ghost use Rattle.sour_machine.specs.Scope.{scope_of, HasValues};
 
-use crate::arithmetic::{difference, product, quotient, remainder, sum};
-use crate::comparison::{at_most, is_same, less};
+use crate::arithmetic::on_numbers;
+use crate::comparison::is_same;
 use crate::env::Env;
 use crate::truths::{both, either, negated, truth};
-use sour_syntax::{Expr, Op, Simple, Trap, Value};
+use sour_syntax::{Expr, Literal, Op, Simple, Trap, Value};
 
 /// The value of an expression, or its trap. It takes no memory.
+#[inline(always)]
 pub fn eval(env: &Env, expr: &Expr) -> Result<Value, Trap>
     requires { HasValues env.now expr.now }
     ensures { (heap : Heap) → eval env.now heap expr.now ≡ result }
 {
-    match *expr {
+    match expr {
         Expr::Plain(a) => Ok(operand(env, a)),
         Expr::Not(a) => negated(operand(env, a)),
-        Expr::Binary(op, a, b) => applied(op, operand(env, a), operand(env, b)),
+        Expr::Binary(op, a, b) => applied(env, *op, a, b),
     }
 }
 
 /// The value of an operand.
-fn operand(env: &Env, simple: Simple) -> Value
-    requires { AllByRecursion (IsInScope (scope_of env.now)) (simple_variables simple) }
-    ensures { operand env.now simple ≡ result }
+#[inline(always)]
+fn operand(env: &Env, simple: &Simple) -> Value
+    requires { AllByRecursion (IsInScope (scope_of env.now)) (simple_variables simple.now) }
+    ensures { operand env.now simple.now ≡ result }
 {
     match simple {
-        Simple::Lit(literal) => Value::Plain(literal),
-        Simple::Var(x) => env.get(x).unwrap(),
+        Simple::Lit(literal) => Value::Plain(*literal),
+        Simple::Var(x) => *env.value(*x),
     }
 }
 
-/// What an operator gives on two values.
-fn applied(op: Op, a: Value, b: Value) -> Result<Value, Trap>
+/// The number that an operand is, if it is one.
+#[inline(always)]
+fn number_at(env: &Env, simple: &Simple) -> Option<i64>
+    requires { AllByRecursion (IsInScope (scope_of env.now)) (simple_variables simple.now) }
+    ensures { number_in (operand env.now simple.now) ≡ result }
+{
+    match simple {
+        Simple::Lit(Literal::Number(number)) => Some(*number),
+        Simple::Lit(_) => None,
+        Simple::Var(x) => match env.value(*x) {
+            Value::Plain(Literal::Number(number)) => Some(*number),
+            _ => None,
+        },
+    }
+}
+
+/// The numbers that two operands are, if both are numbers.
+#[inline(always)]
+fn numbers_at(env: &Env, a: &Simple, b: &Simple) -> Option<(i64, i64)>
+    requires first { AllByRecursion (IsInScope (scope_of env.now)) (simple_variables a.now) }
+    requires second { AllByRecursion (IsInScope (scope_of env.now)) (simple_variables b.now) }
+    ensures { option_zip (number_in (operand env.now a.now)) (number_in (operand env.now b.now)) ≡ result }
+{
+    let first = number_at(env, a)?;
+    let second = number_at(env, b)?;
+    Some((first, second))
+}
+
+/// What an operator gives on two operands. Most are numbers, so it looks for those first.
+#[inline(always)]
+fn applied(env: &Env, op: Op, a: &Simple, b: &Simple) -> Result<Value, Trap>
+    requires first { AllByRecursion (IsInScope (scope_of env.now)) (simple_variables a.now) }
+    requires second { AllByRecursion (IsInScope (scope_of env.now)) (simple_variables b.now) }
+    ensures { applied op (operand env.now a.now) (operand env.now b.now) ≡ result }
+{
+    match numbers_at(env, a, b) {
+        Some((first, second)) => on_numbers(op, first, second),
+        None => on_others(op, operand(env, a), operand(env, b)),
+    }
+}
+
+/// What an operator gives on two values that aren't both numbers.
+#[inline(always)]
+fn on_others(op: Op, a: Value, b: Value) -> Result<Value, Trap>
+    requires { option_zip (number_in a) (number_in b) ≡ None }
     ensures { applied op a b ≡ result }
 {
     match op {
-        Op::Add => sum(a, b),
-        Op::Sub => difference(a, b),
-        Op::Mul => product(a, b),
-        Op::Div => quotient(a, b),
-        Op::Rem => remainder(a, b),
         Op::Eq => Ok(truth(is_same(a, b))),
         Op::Ne => Ok(truth(!is_same(a, b))),
-        Op::Lt => less(a, b),
-        Op::Le => at_most(a, b),
-        Op::Gt => less(b, a),
-        Op::Ge => at_most(b, a),
         Op::And => both(a, b),
         Op::Or => either(a, b),
+        Op::Add | Op::Sub | Op::Mul | Op::Div | Op::Rem => Err(Trap::BadType),
+        Op::Lt | Op::Le | Op::Gt | Op::Ge => Err(Trap::BadType),
     }
 }

@@ -7,6 +7,7 @@ ghost use Rattle.sour_machine.specs.Operands.{with_truths};
 use sour_syntax::{Literal, Trap, Value};
 
 /// A truth value.
+#[inline(always)]
 pub(crate) fn truth(b: bool) -> Value
     ensures { truth b ≡ Ok result }
 {
@@ -14,6 +15,7 @@ pub(crate) fn truth(b: bool) -> Value
 }
 
 /// The truth values that two values are, or the trap where one is none.
+#[inline(always)]
 fn truths(a: Value, b: Value) -> Result<(bool, bool), Trap>
     ensures { (f : Bool → Bool → Bool) → on_truths f a b ≡ with_truths f result }
 {
@@ -24,6 +26,7 @@ fn truths(a: Value, b: Value) -> Result<(bool, bool), Trap>
 }
 
 /// Whether both are true.
+#[inline(always)]
 pub(crate) fn both(a: Value, b: Value) -> Result<Value, Trap>
     ensures { on_truths (λ x y. x && y) a b ≡ result }
 {
@@ -32,6 +35,7 @@ pub(crate) fn both(a: Value, b: Value) -> Result<Value, Trap>
 }
 
 /// Whether one of them is true, or both.
+#[inline(always)]
 pub(crate) fn either(a: Value, b: Value) -> Result<Value, Trap>
     ensures { on_truths (λ x y. x || y) a b ≡ result }
 {
@@ -40,6 +44,7 @@ pub(crate) fn either(a: Value, b: Value) -> Result<Value, Trap>
 }
 
 /// The other truth value.
+#[inline(always)]
 pub(crate) fn negated(a: Value) -> Result<Value, Trap>
     ensures { negated a ≡ result }
 {
