@@ -1,2 +1,5 @@
 pub mod StepTurns
 pub mod RunRests
+pub mod RunAdvances
+pub mod FollowingLines
+pub mod TurnsSoon

@@ -8,6 +8,7 @@ use Rattle.sour_semantics.specs.Step.{step, text_choice, unless_ended}
 use Rattle.sour_semantics.specs.Run.{start, text_run, IsAtBudget, TextAt}
 use Rattle.laws_runs.proofs.StepTurns.{Near-step}
 
+-- what has ended stays, whatever the next state
 stays : (ending : Option Ending) (s t : State) → IsSome ending → unless_ended ending t s ≡ s
 stays None s t ended = cc
 stays (Some ending) s t ended = refl
@@ -16,6 +17,7 @@ stays (Some ending) s t ended = refl
 pub step-ended : (program : ProgramView) (s : State) → IsSome s.ending → step program text_choice s ≡ s
 step-ended program s ended = stays s.ending s _ ended
 
+-- and so however many steps follow
 pub text_run-ended : (program : ProgramView) (count : ℕ) (s : State) → IsSome s.ending → text_run program count s ≡ s
 text_run-ended program zero s ended = refl
 text_run-ended program (suc count) s ended =
@@ -28,6 +30,7 @@ turns-text_run program (suc count) s =
     let next = step program text_choice s in
     omega (arith, (Near-step program text_choice s).least, turns-text_run program count next)
 
+-- a run that rests at a budget took no more turns
 turns_within : (program : ProgramView) (budget : ℕ) (s : State) → IsAtBudget program budget s → s.turns ≤ budget
 turns_within program budget s (inl ended) = ended.1
 turns_within program budget s (inr open_still) = omega (arith, open_still.1)
@@ -59,17 +62,19 @@ in_order program budget m n s le at_m at_n =
     ap (λ k. text_run program k s) e ∙ text_run-add program m (n - m) s in
     later program budget (text_run program m s) (n - m) at_m (subst (IsAtBudget program budget) same at_n) ∙ sym same
 
--- a run rests in one state
+-- a run from a state rests in one state
+pub one_from : (program : ProgramView) (budget m n : ℕ) (s : State)
+    → IsAtBudget program budget (text_run program m s) → IsAtBudget program budget (text_run program n s)
+    → text_run program m s ≡ text_run program n s
+one_from program budget m n s at_m at_n =
+    ⊎_elim (λ lt. in_order program budget m n s (omega (arith, lt)) at_m at_n) (λ le. sym (in_order program budget n m s le at_n at_m)) (cases_lt m n)
+
+-- a run of the text rests in one state
 pub one : (program : ProgramView) (input : List Literal) (budget : ℕ) (s t : State)
     → TextAt program input budget s → TextAt program input budget t → s ≡ t
 one program input budget s t at_s at_t =
-    let begin = start program input in
-    let rests_s : IsAtBudget program budget (text_run program at_s.steps begin) =
-    subst (IsAtBudget program budget) (sym at_s.reached) at_s.rests in
-    let rests_t : IsAtBudget program budget (text_run program at_t.steps begin) =
-    subst (IsAtBudget program budget) (sym at_t.reached) at_t.rests in
-    let same : text_run program at_s.steps begin ≡ text_run program at_t.steps begin =
-    ⊎_elim (λ lt. in_order program budget at_s.steps at_t.steps begin (omega (arith, lt)) rests_s rests_t)
-    (λ le. sym (in_order program budget at_t.steps at_s.steps begin le rests_t rests_s))
-    (cases_lt at_s.steps at_t.steps) in
+    let Rests : State → Type 0 = IsAtBudget program budget in
+    let same : text_run program at_s.steps (start program input) ≡ text_run program at_t.steps (start program input) =
+    one_from program budget at_s.steps at_t.steps (start program input)
+    (subst Rests (sym at_s.reached) at_s.rests) (subst Rests (sym at_t.reached) at_t.rests) in
     sym at_s.reached ∙ same ∙ at_t.reached

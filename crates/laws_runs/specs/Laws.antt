@@ -1,10 +1,12 @@
 -- What holds of every run of a text, over the definitions alone.
-use Rattle.std.specs.Prelude.{◌≡◌, ◌+◌, ◌≤◌, ℕ, List}
+use Rattle.std.specs.Prelude.{◌≡◌, ◌+◌, ◌≤◌, ℕ, List, None, Some, length}
 use Rattle.sour_syntax.specs.declared.literal.Literal.{Literal}
+use Rattle.sour_syntax.specs.declared.program.Version.{Version}
 use Rattle.sour_syntax.specs.Program.{ProgramView}
-use Rattle.sour_semantics.specs.State.{State}
-use Rattle.sour_semantics.specs.Step.{Choice, step}
-use Rattle.sour_semantics.specs.Run.{TextAt}
+use Rattle.sour_semantics.specs.State.{FrameCode, State}
+use Rattle.sour_semantics.specs.Step.{Choice, step, version_of_code}
+use Rattle.sour_semantics.specs.Run.{text_run, IsAtBudget, TextAt}
+use Rattle.sour_semantics.specs.Validity.{IsSound}
 
 -- a step takes one turn or none
 abbrev pub TakesAtMostOneTurn : Type 0
@@ -15,3 +17,24 @@ TakesAtMostOneTurn = (program : ProgramView) (choice : Choice) (s : State)
 abbrev pub RestsOnce : Type 0
 RestsOnce = (program : ProgramView) (input : List Literal) (budget : ℕ) (s t : State)
     → TextAt program input budget s → TextAt program input budget t → s ≡ t
+
+-- a run of the text goes from one state to the other and rests there, with so many turns more
+pub record GoesOnBy (program : ProgramView) (turns : ℕ) (s t : State) : Type 0 where
+  pub steps : ℕ
+  pub reached : text_run program steps s ≡ t
+  pub rests : IsAtBudget program (s.turns + turns) t
+
+-- to go on by some turns and then by others is to go on by all of them
+abbrev pub AdvancesAdd : Type 0
+AdvancesAdd = (program : ProgramView) (a b : ℕ) (s t u v : State)
+    → GoesOnBy program a s t → GoesOnBy program b t u → GoesOnBy program (a + b) s v → u ≡ v
+
+-- no version has more lines than a text may give it
+abbrev pub HasShortVersions : ProgramView → Type 0
+HasShortVersions program = (code : FrameCode) (version : Version)
+    → version_of_code program code ≡ Some version → length version.body.lines ≤ 4096
+
+-- no more steps than this follow one another without a turn
+abbrev pub TurnsComeSoon : Type 0
+TurnsComeSoon = (program : ProgramView) (steps : ℕ) (s : State) → IsSound program → HasShortVersions program
+    → (text_run program steps s).ending ≡ None → (text_run program steps s).turns ≡ s.turns → steps ≤ 135168

@@ -2,7 +2,7 @@
 //! definitions of `sour_semantics` alone.
 #![tactic(auto)]
 
-ghost use Rattle.laws_runs.specs.Laws.{TakesAtMostOneTurn, RestsOnce};
+ghost use Rattle.laws_runs.specs.Laws.{TakesAtMostOneTurn, RestsOnce, AdvancesAdd, TurnsComeSoon};
 
 /// Turns never fall, and a step takes at most one.
 pub fn turns()
@@ -12,4 +12,14 @@ pub fn turns()
 /// The state at which a run of the text rests is determined by the program, the input and the budget.
 pub fn one_rest()
     ensures { RestsOnce }
+{}
+
+/// To go on by some turns and then by others is to go on by all of them.
+pub fn advances_add()
+    ensures { AdvancesAdd }
+{}
+
+/// Between two turns no more instructions are carried out than a text can give.
+pub fn turns_come_soon()
+    ensures { TurnsComeSoon }
 {}

@@ -1,21 +1,24 @@
 -- What the loop over the lines of main keeps, and what its answers say.
-use Rattle.std.proofs.Common.{◌≡◌, ◌≢◌, ℕ, suc, ◌+◌, ◌<◌, List, [], Bool, true, false, Some, IsSome, ◌⊎◌, Result, Ok, Err, get_or, length, drop, Contains, Option, None, ◌-◌, ◌≤◌, ◌++◌, replicate, refl, sym, ap, ◌∙◌, subst, inl, inr, arith}
+use Rattle.std.proofs.Common.{◌≡◌, ◌≢◌, ℕ, suc, ◌+◌, ◌<◌, List, [], Bool, true, false, Some, IsSome, ◌⊎◌, Result, Ok, Err, get_or, length, drop, Contains, None, ◌-◌, ◌≤◌, ◌++◌, replicate, refl, sym, ap, ◌∙◌, subst, inl, inr, arith}
 use Rattle.std.specs.List.{AllByRecursion, slice_get}
 use Rattle.std.proofs.lemmas.Option.{slice_get-get_or}
 use Rattle.std.proofs.lemmas.List.{length-replicate}
 use Rattle.std.specs.Result.{OnOk, OnErr, is_err}
 use Rattle.sour_syntax.specs.declared.instruction.Instr.{Instr}
+use Rattle.sour_syntax.specs.declared.instruction.Instr.TheVariants.{Var, Drop, Assign, Print, Read, Branch, Goto, Return, Stop}
 use Rattle.sour_syntax.specs.declared.instruction.Line.{Line}
+use Rattle.sour_syntax.specs.declared.jump.Jump.{Jump}
 use Rattle.sour_syntax.specs.declared.literal.Literal.{Literal}
-use Rattle.sour_syntax.specs.declared.program.Version.{Version}
 use Rattle.sour_syntax.specs.BodyView.{BodyView}
-use Rattle.sour_syntax.specs.Labels.{LabelsDiffer, first_label}
-use Rattle.sour_syntax.specs.Scopes.{followers, mentioned, IsLineAt, HasScopes, MentionsItsVariables}
+use Rattle.sour_syntax.specs.Jumps.{GoesTo, GoTo}
+use Rattle.sour_syntax.specs.Labels.{LabelsDiffer}
+use Rattle.sour_syntax.specs.Scopes.{mentioned, IsLineAt, HasScopes, MentionsItsVariables}
 use Rattle.sour_syntax.specs.Terminator.{EndsInTerminator}
 use Rattle.sour_syntax.specs.Program.{ProgramView}
-use Rattle.sour_semantics.specs.State.{Environment, text, State}
-use Rattle.sour_semantics.specs.Step.{text_choice, act, step, version_of, lines_of, lines_of_version}
-use Rattle.sour_semantics.specs.Run.{TakesTurn, IsAtBudget, empty_environment, variables_of_version}
+use Rattle.sour_semantics.specs.State.{Environment, Frame, State}
+use Rattle.sour_semantics.specs.Step.{text_choice, act, step}
+use Rattle.sour_semantics.specs.Run.{first_frame, start, TakesTurn, IsAtBudget, empty_environment}
+use Rattle.sour_semantics.specs.Validity.{scope_of}
 use Rattle.sour_semantics.proofs.Places.{step-at_place}
 use Rattle.sour_syntax.proofs.LabelPlaces.{from_label-first_label-drop, drop-slice_get, lt-EndsInTerminator, EndsInTerminator-next}
 use Rattle.sour_semantics.proofs.Runs.{text_run-suc}
@@ -25,10 +28,12 @@ use Rattle.sour_machine.specs.declared.report.End.TheVariants.{Returned, Stopped
 use Rattle.sour_machine.specs.declared.run.Advance.{Advance}
 use Rattle.sour_machine.specs.declared.run.Advance.TheVariants as answer
 use Rattle.sour_machine.specs.End.{ending_of, is_memory}
-use Rattle.sour_machine.specs.Instruction.{IsReady, ActsAs, GoesFurther, ComesTo, AlwaysTakesTurn, NeverTakesTurn}
-use Rattle.sour_machine.specs.Moment.{body_of, main_body, main_lines, main_label, main_frame, state_at, run_at, StandsAtLine, Stands}
-use Rattle.sour_machine.specs.Scope.{scope_of}
-use Rattle.sour_machine.proofs.Scopes.{All-at, Contains-followers, scope_of-empty}
+use Rattle.sour_machine.specs.Instruction.{IsReady, ActsAs, next_places, GoesFurther, ComesTo, AlwaysTakesTurn, NeverTakesTurn}
+use Rattle.sour_machine.specs.Moment.{main_body, main_lines, main_label, main_frame, state_at, run_at, StandsAtLine, Stands}
+use Rattle.sour_machine.proofs.Scopes.{All-at, scope_of-empty}
+use Rattle.sour_machine.proofs.Jumps.{GoesTo-at, Contains-followers, EndsInTerminator-next_places, Contains-one}
+use Rattle.sour_machine.proofs.Instructions.{turns_branch}
+use Rattle.sour_machine.proofs.Measure.{before, before-turn, before-line}
 use Rattle.sour_machine.specs.Run.{RunView, GoesOn, Tells, IsAtRest}
 
 -- clauses on a result, by the test of its variant
@@ -47,53 +52,52 @@ Memory-is_memory (Trapped trap) is = cc
 Memory-is_memory Cut is = cc
 Memory-is_memory Memory is = refl
 
--- the line at the place of a moment at which a run of the program goes on
-pub record IsAt (program : ProgramView) (moment : Moment) (line : Line) : Type 0 where
+-- the line at the place of a moment at which a run of the program goes on, and where it goes by name
+pub record IsAt (program : ProgramView) (moment : Moment) (line : Line) (jump : Jump) : Type 0 where
   pub going : moment.end ≡ Cut
   pub differ : LabelsDiffer (main_lines program)
   pub within : moment.place < length (main_lines program)
   pub found : slice_get (main_lines program) moment.place ≡ Some line
+  pub goes : GoesTo (main_lines program) line.instr jump
 
--- the line that the loop reads
-pub IsAt-lines : (lines : List Line) (program : ProgramView) (moment : Moment) (default : Line) → lines ≡ main_lines program → LabelsDiffer lines → EndsInTerminator lines
-    → moment.end ≡ Cut → StandsAtLine program moment.place moment.env → IsAt program moment (get_or lines moment.place default)
-IsAt-lines lines program moment default is differ terminated going stands =
+-- the line and the jump that the loop reads
+pub IsAt-lines : (program : ProgramView) (moment : Moment) (body : BodyView) (lines : List Line) (jumps : List Jump) (default : Line) (other : Jump) → body ≡ main_body program → lines ≡ body.lines
+    → LabelsDiffer lines → EndsInTerminator lines → GoTo body.lines body.lines jumps → moment.end ≡ Cut → StandsAtLine program moment.place moment.env
+    → IsAt program moment (get_or lines moment.place default) (get_or jumps moment.place other)
+IsAt-lines program moment body lines jumps default other body_is lines_are differ terminated go going stands =
     let Differ : List Line → Type 0 = LabelsDiffer in
     let Ends : List Line → Type 0 = EndsInTerminator in
-    let within : moment.place < length (main_lines program) = lt-EndsInTerminator (main_lines program) moment.place (stands.line (subst Ends is terminated)) in
+    let Go : BodyView → Type 0 = λ body. GoTo body.lines body.lines jumps in
+    let same : lines ≡ main_lines program = lines_are ∙ ap (λ (b : BodyView). b.lines) body_is in
+    let within : moment.place < length (main_lines program) = lt-EndsInTerminator (main_lines program) moment.place (stands.line (subst Ends same terminated)) in
+    let found : slice_get (main_lines program) moment.place ≡ Some (get_or lines moment.place default) =
+    slice_get-get_or (main_lines program) moment.place default within ∙ ap (λ it. Some (get_or it moment.place default)) (sym same) in
     record {
       going = going;
-      differ = subst Differ is differ;
+      differ = subst Differ same differ;
       within = within;
-      found = slice_get-get_or (main_lines program) moment.place default within ∙ ap (λ it. Some (get_or it moment.place default)) (sym is);
+      found = found;
+      goes = GoesTo-at (main_lines program) (main_lines program) jumps moment.place (get_or lines moment.place default) other (subst Go body_is go) found;
     }
 
 -- the line stands at its label
-IsLineAt-place : (program : ProgramView) (moment : Moment) (line : Line) → IsAt program moment line
+IsLineAt-place : (program : ProgramView) (moment : Moment) (line : Line) (jump : Jump) → IsAt program moment line jump
     → IsLineAt (main_body program) (main_label program moment.place) line (drop (moment.place + 1) (main_lines program))
-IsLineAt-place program moment line at = record {
+IsLineAt-place program moment line jump at = record {
   stands = from_label-first_label-drop (main_lines program) moment.place at.differ at.within ∙ drop-slice_get (main_lines program) moment.place line at.found;
 }
 
 -- each variable that the line needs has a value
-pub IsReady-line : (program : ProgramView) (moment : Moment) (line : Line) → IsAt program moment line → HasScopes (main_body program) → MentionsItsVariables (main_body program)
+pub IsReady-line : (program : ProgramView) (moment : Moment) (line : Line) (jump : Jump) → IsAt program moment line jump → HasScopes (main_body program) → MentionsItsVariables (main_body program)
     → StandsAtLine program moment.place moment.env → IsReady line.instr moment.env
-IsReady-line program moment line at scopes mentions stands =
+IsReady-line program moment line jump at scopes mentions stands =
     let body = main_body program in
     let Mentions : ℕ → Type 0 = λ count. AllByRecursion (λ x. x.0 < count) (mentioned line.instr) in
     let Line_mentions : Line → Type 0 = λ line. AllByRecursion (λ x. x.0 < length body.variables) (mentioned line.instr) in
     record {
-      needs = (scopes.fine stands.count (main_label program moment.place) (scope_of moment.env) line (drop (moment.place + 1) body.lines) stands.path (IsLineAt-place program moment line at)).needs;
+      needs = (scopes.fine stands.count (main_label program moment.place) (scope_of moment.env) line (drop (moment.place + 1) body.lines) stands.path (IsLineAt-place program moment line jump at)).needs;
       mentions = subst Mentions (sym stands.row) (All-at Line_mentions body.lines moment.place line at.found mentions);
     }
-
-lines-body : (version : Option Version) → (body_of version).lines ≡ lines_of_version version
-lines-body None = refl
-lines-body (Some version) = refl
-
-variables-body : (version : Option Version) → (body_of version).variables ≡ variables_of_version version
-variables-body None = refl
-variables-body (Some version) = refl
 
 -- a run stands at the first line of main where none of its variables has a value
 pub StandsAtLine-start : (program : ProgramView) (body : BodyView) (environment : Environment) → body ≡ main_body program → body.parameters ≡ 0
@@ -114,31 +118,22 @@ StandsAtLine-start program body environment is none empty =
       row = ap length begun ∙ length-replicate count None;
     }
 
-step-state_at : (program : ProgramView) (input : List Literal) (moment : Moment) (line : Line) → IsAt program moment line
+step-state_at : (program : ProgramView) (input : List Literal) (moment : Moment) (line : Line) (jump : Jump) → IsAt program moment line jump
     → step program text_choice (state_at program input moment) ≡ act program text_choice (main_frame program moment.place moment.env) line.instr (main_label program (moment.place + 1)) (state_at program input moment)
-step-state_at program input moment line at =
-    let place = moment.place in
-    let frame = main_frame program place moment.env in
-    let s = state_at program input moment in
-    let same : main_lines program ≡ lines_of program (text program.main 0) = lines-body (version_of (slice_get program.functions program.main.0) 0) in
-    let Differ : List Line → Type 0 = LabelsDiffer in
-    let Within : List Line → Type 0 = λ lines. place < length lines in
-    let Found : List Line → Type 0 = λ lines. slice_get lines place ≡ Some line in
-    step-at_place program text_choice s frame [] place line
-    (ap ending_of at.going) refl (ap (λ lines. first_label (drop place lines)) same) (subst Differ same at.differ) (subst Within same at.within) (subst Found same at.found)
-    ∙ ap (λ lines. act program text_choice frame line.instr (first_label (drop (place + 1) lines)) s) (sym same)
+step-state_at program input moment line jump at =
+    step-at_place program text_choice (state_at program input moment) (main_frame program moment.place moment.env) [] moment.place line (ap ending_of at.going) refl refl at.differ at.within at.found
 
 -- one instruction more
-pub GoesOn-act : (program : ProgramView) (input : List Literal) (old mid new : Moment) (line : Line) → IsAt program mid line → ActsAs input line.instr mid new
+pub GoesOn-act : (program : ProgramView) (input : List Literal) (old mid new : Moment) (line : Line) (jump : Jump) → IsAt program mid line jump → ActsAs program input line.instr mid new
     → GoesOn (run_at program input true old) (run_at program input true mid) → GoesOn (run_at program input true old) (run_at program input true new)
-GoesOn-act program input old mid new line at acts on = record {
+GoesOn-act program input old mid new line jump at acts on = record {
   program = refl;
   input = refl;
   steps = suc on.steps;
   reached = text_run-suc program on.steps (state_at program input old)
       ∙ ap (step program text_choice) on.reached
-      ∙ step-state_at program input mid line at
-      ∙ sym (acts program);
+      ∙ step-state_at program input mid line jump at
+      ∙ sym acts;
   entered = λ was. refl;
   before_main = λ outside. cc;
 }
@@ -170,64 +165,108 @@ GoesOn-entering program input entered old new on = record {
 }
 
 -- at an instruction that takes a turn the next step takes one
-TakesTurn-always : (program : ProgramView) (input : List Literal) (moment : Moment) (line : Line) → IsAt program moment line → AlwaysTakesTurn line.instr
+TakesTurn-always : (program : ProgramView) (input : List Literal) (moment : Moment) (line : Line) (jump : Jump) → IsAt program moment line jump → AlwaysTakesTurn line.instr
     → TakesTurn program (state_at program input moment)
-TakesTurn-always program input moment line at always =
+TakesTurn-always program input moment line jump at always =
     let more : (step program text_choice (state_at program input moment)).turns ≡ moment.turns + 1 =
-    ap (λ (s : State). s.turns) (step-state_at program input moment line at)
+    ap (λ (s : State). s.turns) (step-state_at program input moment line jump at)
     ∙ always program text_choice (main_frame program moment.place moment.env) (main_label program (moment.place + 1)) (state_at program input moment) in
     omega (arith, more)
 
 -- a run that would take a turn beyond its budget
-pub Tells-more : (program : ProgramView) (input : List Literal) (moment : Moment) (budget : ℕ) (line : Line) → IsAt program moment line → AlwaysTakesTurn line.instr
+pub Tells-more : (program : ProgramView) (input : List Literal) (moment : Moment) (budget : ℕ) (line : Line) (jump : Jump) → IsAt program moment line jump → AlwaysTakesTurn line.instr
     → moment.turns ≡ budget → Tells answer.MoreTurns budget (run_at program input true moment)
-Tells-more program input moment budget line at always used =
+Tells-more program input moment budget line jump at always used =
     let going = ap ending_of at.going in (
       record {
         entered = refl;
         has_memory = ap is_memory at.going;
-        rests = inr (going, used, TakesTurn-always program input moment line at always);
+        rests = inr (going, used, TakesTurn-always program input moment line jump at always);
       },
       going,
     )
 
+-- the turns that an instruction takes
+pub turns-always : (program : ProgramView) (input : List Literal) (old new : Moment) (line : Line) (jump : Jump) → IsAt program old line jump → ActsAs program input line.instr old new → AlwaysTakesTurn line.instr
+    → new.turns ≡ old.turns + 1
+turns-always program input old new line jump at acts always =
+    ap (λ (s : State). s.turns) acts
+    ∙ always program text_choice (main_frame program old.place old.env) (main_label program (old.place + 1)) (state_at program input old)
+
+pub turns-never : (program : ProgramView) (input : List Literal) (old new : Moment) (line : Line) (jump : Jump) → IsAt program old line jump → ActsAs program input line.instr old new → NeverTakesTurn line.instr
+    → new.turns ≡ old.turns
+turns-never program input old new line jump at acts never =
+    ap (λ (s : State). s.turns) acts
+    ∙ never program text_choice (main_frame program old.place old.env) (main_label program (old.place + 1)) (state_at program input old)
+
 any_program : ProgramView
 any_program = record { functions = []; main = record { 0 = 0 } }
 
--- the turns that an instruction takes
-pub turns-always : (input : List Literal) (instr : Instr) (old new : Moment) → ActsAs input instr old new → AlwaysTakesTurn instr → new.turns ≡ old.turns + 1
-turns-always input instr old new acts always =
-    ap (λ (s : State). s.turns) (acts any_program)
-    ∙ always any_program text_choice (main_frame any_program old.place old.env) (main_label any_program (old.place + 1)) (state_at any_program input old)
+any_frame : Frame
+any_frame = first_frame any_program (record { 0 = 0 })
 
-pub turns-never : (input : List Literal) (instr : Instr) (old new : Moment) → ActsAs input instr old new → NeverTakesTurn instr → new.turns ≡ old.turns
-turns-never input instr old new acts never =
-    ap (λ (s : State). s.turns) (acts any_program)
-    ∙ never any_program text_choice (main_frame any_program old.place old.env) (main_label any_program (old.place + 1)) (state_at any_program input old)
+-- no instruction always takes a turn and never takes one
+one_of : (instr : Instr) → AlwaysTakesTurn instr → NeverTakesTurn instr → ⊥
+one_of instr always never =
+    let s : State = start any_program [] in
+    let one : (act any_program text_choice any_frame instr [] s).turns ≡ s.turns + 1 = always any_program text_choice any_frame [] s in
+    let none : (act any_program text_choice any_frame instr [] s).turns ≡ s.turns = never any_program text_choice any_frame [] s in
+    omega (arith, one, none)
 
--- behind an instruction after which the run goes on there is a line, and the path goes on to it
-StandsAtLine-act : (program : ProgramView) (old new : Moment) (line : Line) → IsAt program old line → GoesFurther line.instr old new
+-- a run goes on from an instruction that takes no turn to the next line
+next_line : (instr : Instr) (jump : Jump) (place next : ℕ) → NeverTakesTurn instr → Contains (next_places instr jump place) next → next ≡ place + 1
+next_line (Var x e) jump place next never at = Contains-one (place + 1) next at
+next_line (Drop x) jump place next never at = Contains-one (place + 1) next at
+next_line (Assign x e) jump place next never at = Contains-one (place + 1) next at
+next_line (Print e) jump place next never at = Contains-one (place + 1) next at
+next_line (Read x) jump place next never at = Contains-one (place + 1) next at
+next_line (Branch e a b) jump place next never at = absurd (one_of (Branch e a b) (turns_branch e a b) never)
+next_line (Goto a) jump place next never at = absurd (one_of (Goto a) (λ program choice frame label s. refl) never)
+next_line (Return e) jump place next never at = absurd (omega (arith, at.1))
+next_line Stop jump place next never at = absurd (omega (arith, at.1))
+
+-- an instruction leaves less before the run
+pub before-always : (program : ProgramView) (input : List Literal) (budget : ℕ) (old new : Moment) (line : Line) (jump : Jump) → IsAt program old line jump → ActsAs program input line.instr old new
+    → AlwaysTakesTurn line.instr → old.turns < budget → before budget (length (main_lines program)) new < before budget (length (main_lines program)) old
+before-always program input budget old new line jump at acts always left =
+    before-turn budget (length (main_lines program)) old new at.going at.within left (turns-always program input old new line jump at acts always)
+
+pub before-never : (program : ProgramView) (input : List Literal) (budget : ℕ) (old new : Moment) (line : Line) (jump : Jump) → IsAt program old line jump → ActsAs program input line.instr old new
+    → NeverTakesTurn line.instr → ComesTo line.instr (next_places line.instr jump old.place) old.env new new.end → before budget (length (main_lines program)) new < before budget (length (main_lines program)) old
+before-never program input budget old new line jump at acts never comes =
+    let Comes : End → Type 0 = ComesTo line.instr (next_places line.instr jump old.place) old.env new in
+    before-line budget (length (main_lines program)) old new at.going at.within (turns-never program input old new line jump at acts never)
+    (λ going. next_line line.instr jump old.place new.place never (subst Comes going comes).place)
+
+-- where the run goes on there is a line, and the path goes on to it
+StandsAtLine-act : (program : ProgramView) (old new : Moment) (line : Line) (jump : Jump) → IsAt program old line jump → GoesFurther line.instr (next_places line.instr jump old.place) old.env new
     → StandsAtLine program old.place old.env → StandsAtLine program new.place new.env
-StandsAtLine-act program old new line at further stands =
+StandsAtLine-act program old new line jump at further stands =
     let lines = main_lines program in
-    let rest = drop (old.place + 1) lines in
-    let Ends : ℕ → Type 0 = λ place. EndsInTerminator (drop place lines) in
-    let Follows : ℕ → Type 0 = λ place. Contains (followers line.instr (first_label rest)) (main_label program place) in
-    let follow : Follows new.place = subst Follows (sym further.place) (Contains-followers line.instr (first_label rest) further.follows) in
     record {
-      line = λ terminated. subst Ends (sym further.place) (EndsInTerminator-next lines old.place line at.found further.follows (stands.line terminated));
+      line = λ terminated. EndsInTerminator-next_places lines line.instr jump old.place new.place at.goes further.place terminated
+          (λ going. EndsInTerminator-next lines old.place line at.found going (stands.line terminated));
       count = suc stands.count;
-      path = (main_label program old.place, scope_of old.env, line, rest, stands.path, IsLineAt-place program old line at, follow, further.scope);
+      path = (
+        main_label program old.place,
+        scope_of old.env,
+        line,
+        drop (old.place + 1) lines,
+        stands.path,
+        IsLineAt-place program old line jump at,
+        Contains-followers lines line.instr jump old.place new.place at.goes further.place,
+        further.scope,
+      );
       row = further.row ∙ stands.row;
     }
 
-pub Stands-act : (program : ProgramView) (input : List Literal) (old new : Moment) (line : Line) → IsAt program old line → ComesTo line.instr old new new.end → new.read ≤ length input
+pub Stands-act : (program : ProgramView) (input : List Literal) (old new : Moment) (line : Line) (jump : Jump) → IsAt program old line jump → ComesTo line.instr (next_places line.instr jump old.place) old.env new new.end → new.read ≤ length input
     → StandsAtLine program old.place old.env → Stands program input new
-Stands-act program input old new line at comes within stands =
-    let Comes : End → Type 0 = ComesTo line.instr old new in
+Stands-act program input old new line jump at comes within stands =
+    let Comes : End → Type 0 = ComesTo line.instr (next_places line.instr jump old.place) old.env new in
     record {
       within = within;
-      at_line = λ going. StandsAtLine-act program old new line at (subst Comes going comes) stands;
+      at_line = λ going. StandsAtLine-act program old new line jump at (subst Comes going comes) stands;
     }
 
 rests_on : (program : ProgramView) (budget : ℕ) (s : State) → IsAtBudget program budget s → IsSome s.ending ⊎ TakesTurn program s
@@ -241,9 +280,9 @@ IsAtRest-Tells answer.MoreTurns budget run told = inr (told.0.entered, rests_on 
 IsAtRest-Tells answer.Memory budget run told = inl told
 
 -- no instruction finds that memory is wanting
-pub has_memory-act : (instr : Instr) (old new : Moment) (end : End) → ComesTo instr old new end → end ≢ Memory
-has_memory-act instr old new (Returned value) comes is = cc
-has_memory-act instr old new Stopped comes is = cc
-has_memory-act instr old new (Trapped trap) comes is = cc
-has_memory-act instr old new Cut comes is = cc
-has_memory-act instr old new Memory comes is = comes
+pub has_memory-act : (instr : Instr) (places : List ℕ) (environment : Environment) (new : Moment) (end : End) → ComesTo instr places environment new end → end ≢ Memory
+has_memory-act instr places environment new (Returned value) comes is = cc
+has_memory-act instr places environment new Stopped comes is = cc
+has_memory-act instr places environment new (Trapped trap) comes is = cc
+has_memory-act instr places environment new Cut comes is = cc
+has_memory-act instr places environment new Memory comes is = comes

@@ -1,21 +1,18 @@
 -- Scopes and environments.
-use Rattle.std.proofs.Common.{◌≡◌, ℕ, zero, suc, List, [], ◌∷◌, Bool, true, false, Some, length, set, refl, sym, ap, ◌∙◌, subst, arith, Contains, replicate}
+use Rattle.std.proofs.Common.{◌≡◌, ℕ, zero, suc, List, [], ◌∷◌, Bool, true, false, Option, Some, length, set, refl, sym, ap, ◌∙◌, subst, replicate}
 use Rattle.std.specs.Prelude.{is_some}
 use Rattle.std.specs.List.{AllByRecursion, slice_get}
 use Rattle.std.proofs.lemmas.List.{map-set, set-get_or, length-set}
 use Rattle.std.proofs.lemmas.Option.{get_or_from_slice_get}
 use Rattle.sour_syntax.specs.declared.instruction.Instr.{Instr}
-use Rattle.sour_syntax.specs.declared.instruction.Instr.TheVariants.{Var, Assign, Print, Read, Return, Stop}
 use Rattle.sour_syntax.specs.declared.literal.Value.{Value}
-use Rattle.sour_syntax.specs.Scopes.{followers}
 use Rattle.sour_semantics.specs.State.{Environment}
 use Rattle.sour_semantics.specs.Run.{empty_environment}
+use Rattle.sour_semantics.specs.Validity.{scope_of}
 use Rattle.sour_machine.specs.declared.moment.Moment.{Moment}
 use Rattle.sour_machine.specs.declared.report.End.{End}
 use Rattle.sour_machine.specs.declared.report.End.TheVariants.{Cut}
 use Rattle.sour_machine.specs.Instruction.{GoesFurther, ComesTo}
-use Rattle.sour_machine.specs.Scope.{scope_of}
-use Rattle.sour_syntax.specs.Terminator.{IsTerminator}
 
 -- what holds of each element holds of the one at a place
 pub All-at : {X : Type 0} (P : X → Type 0) (xs : List X) (place : ℕ) (x : X) → slice_get xs place ≡ Some x → AllByRecursion P xs → P x
@@ -28,28 +25,19 @@ pub set-same : (scope : List Bool) (place : ℕ) → slice_get scope place ≡ S
 set-same scope place found =
     ap (set scope place) (sym (get_or_from_slice_get scope place true true found)) ∙ set-get_or scope place true
 
--- the line behind an instruction that is no terminator is one that may follow it
-pub Contains-followers : (instr : Instr) (next : List ℕ) → (IsTerminator instr → ⊥) → Contains (followers instr next) next
-Contains-followers (Var x e) next going = (0, omega arith, refl)
-Contains-followers (Assign x e) next going = (0, omega arith, refl)
-Contains-followers (Print e) next going = (0, omega arith, refl)
-Contains-followers (Read x) next going = (0, omega arith, refl)
-Contains-followers (Return e) next going = absurd (going tt)
-Contains-followers Stop next going = absurd (going tt)
-
 -- no variable of a new row has a value
 pub scope_of-empty : (count : ℕ) → scope_of (empty_environment count) ≡ replicate count false
 scope_of-empty zero = refl
 scope_of-empty (suc count) = ap (λ rest. false ∷ rest) (scope_of-empty count)
 
--- the scope of an environment in which a variable got a value
-pub scope_of-set : (old new : Environment) (x : ℕ) (value : Value) → new ≡ set old x (Some value) → scope_of new ≡ set (scope_of old) x true
-scope_of-set old new x value is = ap scope_of is ∙ map-set is_some old x (Some value)
+-- the scope of an environment in which a variable got a value, or lost it
+pub scope_of-set : (old new : Environment) (x : ℕ) (kept : Option Value) → new ≡ set old x kept → scope_of new ≡ set (scope_of old) x (is_some kept)
+scope_of-set old new x kept is = ap scope_of is ∙ map-set is_some old x kept
 
-pub row-set : (old new : Environment) (x : ℕ) (value : Value) → new ≡ set old x (Some value) → length new ≡ length old
-row-set old new x value is = ap length is ∙ length-set old x (Some value)
+pub row-set : (old new : Environment) (x : ℕ) (kept : Option Value) → new ≡ set old x kept → length new ≡ length old
+row-set old new x kept is = ap length is ∙ length-set old x kept
 
 -- a run that goes on has gone further
-pub ComesTo-going : (instr : Instr) (old new : Moment) (end : End) → end ≡ Cut → GoesFurther instr old new → ComesTo instr old new end
-ComesTo-going instr old new end going further =
-    let Comes : End → Type 0 = ComesTo instr old new in subst Comes (sym going) further
+pub ComesTo-going : (instr : Instr) (places : List ℕ) (environment : Environment) (new : Moment) (end : End) → end ≡ Cut → GoesFurther instr places environment new → ComesTo instr places environment new end
+ComesTo-going instr places environment new end going further =
+    let Comes : End → Type 0 = ComesTo instr places environment new in subst Comes (sym going) further

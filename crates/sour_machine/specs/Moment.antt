@@ -1,28 +1,23 @@
-use Rattle.std.specs.Prelude.{◌≡◌, ◌≤◌, ℕ, List, [], ◌∷◌, Bool, Option, None, Some, length, slice_get, drop}
+use Rattle.std.specs.Prelude.{◌≡◌, ◌≤◌, ℕ, List, [], ◌∷◌, Bool, length, drop}
 use Rattle.sour_syntax.specs.declared.instruction.Line.{Line}
 use Rattle.sour_syntax.specs.declared.literal.Literal.{Literal}
-use Rattle.sour_syntax.specs.declared.program.Version.{Version}
 use Rattle.sour_syntax.specs.BodyView.{BodyView}
 use Rattle.sour_syntax.specs.Labels.{first_label}
 use Rattle.sour_syntax.specs.Program.{ProgramView}
 use Rattle.sour_syntax.specs.Scopes.{HasScope}
 use Rattle.sour_syntax.specs.Terminator.{EndsInTerminator}
-use Rattle.sour_semantics.specs.State.{Environment, Frame, State}
-use Rattle.sour_semantics.specs.Step.{version_of}
+use Rattle.sour_semantics.specs.State.{Environment, Frame, text, State}
+use Rattle.sour_semantics.specs.Step.{body_of}
 use Rattle.sour_semantics.specs.Run.{first_frame, start}
+use Rattle.sour_semantics.specs.Validity.{scope_of}
 use Rattle.sour_machine.specs.declared.moment.Moment.{Moment}
 use Rattle.sour_machine.specs.declared.report.End.TheVariants.{Cut}
 use Rattle.sour_machine.specs.End.{ending_of, is_memory}
 use Rattle.sour_machine.specs.Run.{RunView}
-use Rattle.sour_machine.specs.Scope.{scope_of}
-
-abbrev pub body_of : Option Version → BodyView
-body_of None = record { function = record { 0 = 0 }; parameters = 0; variables = []; lines = [] }
-body_of (Some version) = version.body
 
 -- the body of the text version of main
 abbrev pub main_body : ProgramView → BodyView
-main_body program = body_of (version_of (slice_get program.functions program.main.0) 0)
+main_body program = body_of program (text program.main 0)
 
 abbrev pub main_lines : ProgramView → List Line
 main_lines program = (main_body program).lines

@@ -1,13 +1,9 @@
 -- Which variables of a frame have a value.
-use Rattle.std.specs.Prelude.{map, is_some}
 use Rattle.std.specs.List.{AllByRecursion}
 use Rattle.sour_syntax.specs.declared.expression.Expr.{Expr}
-use Rattle.sour_syntax.specs.Scopes.{Scope, IsInScope, variables_of_expr}
+use Rattle.sour_syntax.specs.Scopes.{IsInScope, variables_of_expr}
 use Rattle.sour_semantics.specs.State.{Environment}
-
--- a variable is in scope where it has a value
-abbrev pub scope_of : Environment → Scope
-scope_of environment = map is_some environment
+use Rattle.sour_semantics.specs.Validity.{scope_of}
 
 -- each variable of an expression has a value
 abbrev pub HasValues : Environment → Expr → Type 0

@@ -1,15 +1,22 @@
-ghost use Rattle.std.specs.Prelude.{◌≡◌, ◌+◌, ◌^◌, ◌<◌, ◌≤◌, List, length, OnOk, OnErr, MatchBool};
+ghost use Rattle.std.specs.Prelude.{◌≡◌, ◌+◌, ◌^◌, ◌<◌, ◌≤◌, ℕ, List, [], ◌∷◌, length, OnOk, OnErr, MatchBool};
+ghost use Rattle.sour_syntax.specs.declared.expression.Expr.{Expr};
 ghost use Rattle.sour_syntax.specs.declared.literal.Literal.{Literal};
+ghost use Rattle.sour_syntax.specs.Jumps.{GoesTo};
+ghost use Rattle.sour_syntax.specs.Labels.{IsPlaceOf};
+ghost use Rattle.sour_syntax.specs.Program.{ProgramView};
 ghost use Rattle.sour_syntax.specs.Scopes.{IsInScope};
-ghost use Rattle.sour_machine.specs.Scope.{scope_of, HasValues};
-ghost use Rattle.sour_machine.specs.Instruction.{IsReady, ActsAs, ComesTo, AlwaysTakesTurn, NeverTakesTurn};
+ghost use Rattle.sour_semantics.specs.Step.{branches};
+ghost use Rattle.sour_semantics.specs.Validity.{scope_of};
+ghost use Rattle.sour_machine.specs.Scope.{HasValues};
+ghost use Rattle.sour_machine.specs.Moment.{main_lines, state_at};
+ghost use Rattle.sour_machine.specs.Instruction.{IsReady, ActsAs, next_places, ComesTo, AlwaysTakesTurn, NeverTakesTurn};
 
 use crate::evaluation::eval;
 use crate::moment::Moment;
 use crate::report::End;
 use crate::text::value_text;
 use itoa::Buffer;
-use sour_syntax::{Expr, Instr, Literal, Trap, Value, VarId};
+use sour_syntax::{Expr, Instr, Jump, Literal, Trap, Value, VarId};
 use std::alloc::AllocError;
 
 /// Whether an instruction takes a turn.
@@ -17,30 +24,44 @@ pub(crate) fn takes_turn(instr: &Instr) -> bool
     ensures { MatchBool result (AlwaysTakesTurn instr.now) (NeverTakesTurn instr.now) }
 {
     match instr {
-        Instr::Return(_) => true,
-        Instr::Var(..) | Instr::Assign(..) | Instr::Print(_) | Instr::Read(_) | Instr::Stop =>
-            false,
+        Instr::Branch(..) | Instr::Goto(_) | Instr::Return(_) => true,
+        Instr::Var(..)
+        | Instr::Drop(_)
+        | Instr::Assign(..)
+        | Instr::Print(_)
+        | Instr::Read(_)
+        | Instr::Stop => false,
     }
 }
 
-/// Carries out one instruction of a run on this input, or none where memory is wanting.
+/// Carries out one instruction of a run on this input, or none where memory is wanting. The jump has the
+/// places of the labels that the instruction names.
 ///
-/// Most instructions set a variable. The functions of the others aren't inlined, so the loop stays small.
-pub(crate) fn act(moment: &mut Moment, input: &[Literal], instr: &Instr) -> Result<(), AllocError>
+/// Most instructions set a variable or jump. The functions of the others aren't inlined, so the loop stays
+/// small.
+pub(crate) fn act(
+    moment: &mut Moment,
+    input: &[Literal],
+    instr: &Instr,
+    jump: Jump,
+) -> Result<(), AllocError>
     requires going { moment.old.end ≡ End.Cut }
     requires place { moment.old.place + 1 < 2 ^ 64 }
     requires turns { moment.old.turns + 1 < 2 ^ 64 }
     requires within { moment.old.read ≤ length input.now }
     requires ready { IsReady instr.now moment.old.env }
-    ensures acts { OnOk result (ActsAs input.now instr.now moment.old moment.new) }
-    ensures comes { OnOk result (ComesTo instr.now moment.old moment.new moment.new.end) }
+    ensures acts { OnOk result ((program : ProgramView) → GoesTo (main_lines program) instr.now jump → ActsAs program input.now instr.now moment.old moment.new) }
+    ensures comes { OnOk result (ComesTo instr.now (next_places instr.now jump moment.old.place) moment.old.env moment.new moment.new.end) }
     ensures within { moment.new.read ≤ length input.now }
     ensures err { OnErr result (moment.new ≡ moment.old) }
 {
     match instr {
         Instr::Var(x, expr) | Instr::Assign(x, expr) => set(moment, *x, expr),
+        Instr::Drop(x) => clear(moment, *x),
         Instr::Print(expr) => print(moment, expr)?,
         Instr::Read(x) => read(moment, input, *x),
+        Instr::Branch(expr, _, _) => branch(moment, expr, jump),
+        Instr::Goto(_) => goto(moment, jump),
         Instr::Return(expr) => return_value(moment, expr),
         Instr::Stop => stop(moment),
     }
@@ -53,9 +74,9 @@ fn set(moment: &mut Moment, x: VarId, expr: &Expr)
     requires place { moment.old.place + 1 < 2 ^ 64 }
     requires values { HasValues moment.old.env expr.now }
     requires there { x.0 < length moment.old.env }
-    ensures acts { (input : List Literal) → ActsAs input (Instr.Var x expr.now) moment.old moment.new }
-    ensures declares { ComesTo (Instr.Var x expr.now) moment.old moment.new moment.new.end }
-    ensures assigns { IsInScope (scope_of moment.old.env) x → ComesTo (Instr.Assign x expr.now) moment.old moment.new moment.new.end }
+    ensures acts { (program : ProgramView) (input : List Literal) → ActsAs program input (Instr.Var x expr.now) moment.old moment.new }
+    ensures declares { ComesTo (Instr.Var x expr.now) ((moment.old.place + 1) ∷ []) moment.old.env moment.new moment.new.end }
+    ensures assigns { IsInScope (scope_of moment.old.env) x → ComesTo (Instr.Assign x expr.now) ((moment.old.place + 1) ∷ []) moment.old.env moment.new moment.new.end }
     ensures reads { moment.new.read ≡ moment.old.read }
 {
     match eval(&moment.env, expr) {
@@ -67,6 +88,19 @@ fn set(moment: &mut Moment, x: VarId, expr: &Expr)
     }
 }
 
+/// Takes the value of a variable away.
+fn clear(moment: &mut Moment, x: VarId)
+    requires going { moment.old.end ≡ End.Cut }
+    requires place { moment.old.place + 1 < 2 ^ 64 }
+    requires there { x.0 < length moment.old.env }
+    ensures acts { (program : ProgramView) (input : List Literal) → ActsAs program input (Instr.Drop x) moment.old moment.new }
+    ensures comes { ComesTo (Instr.Drop x) ((moment.old.place + 1) ∷ []) moment.old.env moment.new moment.new.end }
+    ensures reads { moment.new.read ≡ moment.old.read }
+{
+    moment.env.clear(x);
+    moment.place += 1;
+}
+
 /// Takes the next value of the input into a variable.
 #[inline(never)]
 fn read(moment: &mut Moment, input: &[Literal], x: VarId)
@@ -74,8 +108,8 @@ fn read(moment: &mut Moment, input: &[Literal], x: VarId)
     requires place { moment.old.place + 1 < 2 ^ 64 }
     requires within { moment.old.read ≤ length input.now }
     requires there { x.0 < length moment.old.env }
-    ensures acts { ActsAs input.now (Instr.Read x) moment.old moment.new }
-    ensures comes { ComesTo (Instr.Read x) moment.old moment.new moment.new.end }
+    ensures acts { (program : ProgramView) → ActsAs program input.now (Instr.Read x) moment.old moment.new }
+    ensures comes { ComesTo (Instr.Read x) ((moment.old.place + 1) ∷ []) moment.old.env moment.new moment.new.end }
     ensures within { moment.new.read ≤ length input.now }
 {
     match input.get(moment.read) {
@@ -94,8 +128,8 @@ fn print(moment: &mut Moment, expr: &Expr) -> Result<(), AllocError>
     requires going { moment.old.end ≡ End.Cut }
     requires place { moment.old.place + 1 < 2 ^ 64 }
     requires values { HasValues moment.old.env expr.now }
-    ensures acts { OnOk result ((input : List Literal) → ActsAs input (Instr.Print expr.now) moment.old moment.new) }
-    ensures comes { OnOk result (ComesTo (Instr.Print expr.now) moment.old moment.new moment.new.end) }
+    ensures acts { OnOk result ((program : ProgramView) (input : List Literal) → ActsAs program input (Instr.Print expr.now) moment.old moment.new) }
+    ensures comes { OnOk result (ComesTo (Instr.Print expr.now) ((moment.old.place + 1) ∷ []) moment.old.env moment.new moment.new.end) }
     ensures reads { moment.new.read ≡ moment.old.read }
     ensures err { OnErr result (moment.new ≡ moment.old) }
 {
@@ -117,14 +151,61 @@ fn print(moment: &mut Moment, expr: &Expr) -> Result<(), AllocError>
     Ok(())
 }
 
+/// Goes to the place of the first label or to that of the second, as the truth value of an expression
+/// says. The turn is taken even where the expression has none.
+fn branch(moment: &mut Moment, expr: &Expr, jump: Jump)
+    requires going { moment.old.end ≡ End.Cut }
+    requires turns { moment.old.turns + 1 < 2 ^ 64 }
+    requires values { HasValues moment.old.env expr.now }
+    ensures acts { (program : ProgramView) (input : List Literal) (first second : List ℕ) → IsPlaceOf (main_lines program) first jump.first → IsPlaceOf (main_lines program) second jump.second → ActsAs program input (Instr.Branch expr.now first second) moment.old moment.new }
+    ensures comes { (first second : List ℕ) → ComesTo (Instr.Branch expr.now first second) (jump.first ∷ jump.second ∷ []) moment.old.env moment.new moment.new.end }
+    ensures reads { moment.new.read ≡ moment.old.read }
+{
+    moment.turns += 1;
+    match eval(&moment.env, expr) {
+        Ok(value) => go_by(moment, value, jump),
+        Err(trap) => moment.end = End::Trapped(trap),
+    }
+}
+
+/// Goes to the place of the first label on `true`, to that of the second on `false`, and nowhere on any
+/// other value.
+#[tactic(auto, using(crate::proofs::Jumps::state_at_place))]
+fn go_by(moment: &mut Moment, value: Value, jump: Jump)
+    requires { moment.old.end ≡ End.Cut }
+    ensures acts { (program : ProgramView) (input : List Literal) (first second : List ℕ) → IsPlaceOf (main_lines program) first jump.first → IsPlaceOf (main_lines program) second jump.second
+        → state_at program input moment.new ≡ branches value first second (state_at program input moment.old) }
+    ensures comes { (expr : Expr) (first second : List ℕ) → ComesTo (Instr.Branch expr first second) (jump.first ∷ jump.second ∷ []) moment.old.env moment.new moment.new.end }
+    ensures reads { moment.new.read ≡ moment.old.read }
+{
+    match value {
+        Value::Plain(Literal::Truth(true)) => moment.place = jump.first,
+        Value::Plain(Literal::Truth(false)) => moment.place = jump.second,
+        _ => moment.end = End::Trapped(Trap::BadType),
+    }
+}
+
+/// Goes to the place of a label.
+#[tactic(auto, using(crate::proofs::Jumps::state_at_place))]
+fn goto(moment: &mut Moment, jump: Jump)
+    requires going { moment.old.end ≡ End.Cut }
+    requires turns { moment.old.turns + 1 < 2 ^ 64 }
+    ensures acts { (program : ProgramView) (input : List Literal) (label : List ℕ) → IsPlaceOf (main_lines program) label jump.first → ActsAs program input (Instr.Goto label) moment.old moment.new }
+    ensures comes { (label : List ℕ) → ComesTo (Instr.Goto label) (jump.first ∷ []) moment.old.env moment.new moment.new.end }
+    ensures reads { moment.new.read ≡ moment.old.read }
+{
+    moment.turns += 1;
+    moment.place = jump.first;
+}
+
 /// Ends `main`, and with it the run.
 #[inline(never)]
 fn return_value(moment: &mut Moment, expr: &Expr)
     requires going { moment.old.end ≡ End.Cut }
     requires turns { moment.old.turns + 1 < 2 ^ 64 }
     requires values { HasValues moment.old.env expr.now }
-    ensures acts { (input : List Literal) → ActsAs input (Instr.Return expr.now) moment.old moment.new }
-    ensures comes { ComesTo (Instr.Return expr.now) moment.old moment.new moment.new.end }
+    ensures acts { (program : ProgramView) (input : List Literal) → ActsAs program input (Instr.Return expr.now) moment.old moment.new }
+    ensures comes { ComesTo (Instr.Return expr.now) [] moment.old.env moment.new moment.new.end }
     ensures reads { moment.new.read ≡ moment.old.read }
 {
     moment.turns += 1;
@@ -137,8 +218,8 @@ fn return_value(moment: &mut Moment, expr: &Expr)
 /// Ends the run.
 fn stop(moment: &mut Moment)
     requires { moment.old.end ≡ End.Cut }
-    ensures acts { (input : List Literal) → ActsAs input Instr.Stop moment.old moment.new }
-    ensures comes { ComesTo Instr.Stop moment.old moment.new moment.new.end }
+    ensures acts { (program : ProgramView) (input : List Literal) → ActsAs program input Instr.Stop moment.old moment.new }
+    ensures comes { ComesTo Instr.Stop [] moment.old.env moment.new moment.new.end }
     ensures reads { moment.new.read ≡ moment.old.read }
 {
     moment.end = End::Stopped;

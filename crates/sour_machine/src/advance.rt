@@ -39,12 +39,14 @@ pub(crate) fn advance(
 {
     let body = body_of_main(program);
     let lines = body.lines();
+    let jumps = body.jumps();
     while let End::Cut = moment.end {
         let instr = &lines[moment.place].instr;
+        let jump = jumps[moment.place];
         if takes_turn(instr) && moment.turns == budget {
             return Advance::MoreTurns;
         }
-        if act(moment, input, instr).is_err() {
+        if act(moment, input, instr, jump).is_err() {
             moment.end = End::Memory;
             return Advance::Memory;
         }

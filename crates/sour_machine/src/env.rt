@@ -1,8 +1,8 @@
-ghost use Rattle.std.specs.Prelude.{◌≡◌, ◌<◌, Some, length, slice_get, slice_set, IfOk};
+ghost use Rattle.std.specs.Prelude.{◌≡◌, ◌<◌, Some, None, length, slice_get, slice_set, IfOk};
 ghost use Rattle.std.specs.Option.{option_flatten};
 ghost use Rattle.sour_syntax.specs.Scopes.{IsInScope};
 ghost use Rattle.sour_semantics.specs.Run.{empty_environment};
-ghost use Rattle.sour_machine.specs.Scope.{scope_of};
+ghost use Rattle.sour_semantics.specs.Validity.{scope_of};
 
 use sour_syntax::{Value, VarId};
 use std::alloc::{AllocError, Global};
@@ -57,5 +57,13 @@ impl Env {
         ensures { self.new ≡ slice_set self.old x.0 (Some value) }
     {
         self.values[x.0 as usize] = Some(value);
+    }
+
+    /// Takes the value of a variable away.
+    pub fn clear(&mut self, x: VarId)
+        requires { x.0 < length self.old }
+        ensures { self.new ≡ slice_set self.old x.0 None }
+    {
+        self.values[x.0 as usize] = None;
     }
 }

@@ -4,8 +4,9 @@ ghost use Rattle.std.specs.Option.{option_zip};
 ghost use Rattle.sour_syntax.specs.Scopes.{IsInScope, simple_variables};
 ghost use Rattle.sour_semantics.specs.State.{Heap};
 ghost use Rattle.sour_semantics.specs.Evaluation.{eval, operand, applied};
+ghost use Rattle.sour_semantics.specs.Validity.{scope_of};
 ghost use Rattle.sour_machine.specs.Operands.{number_in};
-ghost use Rattle.sour_machine.specs.Scope.{scope_of, HasValues};
+ghost use Rattle.sour_machine.specs.Scope.{HasValues};
 
 use crate::arithmetic::on_numbers;
 use crate::comparison::is_same;

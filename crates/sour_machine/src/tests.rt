@@ -1,10 +1,5 @@
 //! Values of expressions, and runs of small programs.
-ghost use Rattle.std.specs.Prelude.{◌≡◌, ◌≤◌, [], ◌∷◌, IfOk};
-ghost use Rattle.sour_syntax.specs.declared.expression.Expr.{Expr};
-ghost use Rattle.sour_syntax.specs.declared.instruction.Instr.{Instr};
-ghost use Rattle.sour_syntax.specs.Labels.{LabelsDiffer};
-ghost use Rattle.sour_syntax.specs.Scopes.{needed, HasScopes, MentionsItsVariables};
-ghost use Rattle.sour_syntax.specs.Terminator.{IsTerminator, EndsInTerminator};
+ghost use Rattle.std.specs.Prelude.{◌≤◌};
 
 use crate::{Advance, End, Env, Report, Run, eval};
 use sour_syntax::{
@@ -163,24 +158,26 @@ fn keeps_the_values_of_variables(rt: HostRuntime) -> Result<(), Fail> {
     Ok(())
 }
 
-fn plain(literal: Literal) -> Expr
-    ensures { result ≡ Expr.Plain (Simple.Lit literal) }
-{
+fn plain(literal: Literal) -> Expr {
     Expr::Plain(Simple::Lit(literal))
 }
 
 /// A line whose label is this byte.
-fn line(alloc: Global, label: u8, instr: Instr) -> Result<Line, AllocError>
-    ensures { IfOk result (λ line. line ≡ record { label = label ∷ []; instr = instr }) }
-{
+fn line(alloc: Global, label: u8, instr: Instr) -> Result<Line, AllocError> {
     let label = Label::from_bytes(vec![in alloc; label]?);
     Ok(Line { label, instr })
 }
 
-/// A program whose `main` has this body alone.
-fn program_of(alloc: Global, body: Body) -> Result<Arc<Program>, AllocError>
-    requires { body.parameters ≡ 0 }
-{
+/// A program whose `main` has these lines alone, where they are those of a body.
+fn program_of(
+    alloc: Global,
+    variables: Names,
+    lines: List<Line>,
+) -> Result<Option<Arc<Program>>, AllocError> {
+    let body = match Body::checked(alloc, FunId(0), 0, variables, lines)? {
+        Some(body) => body,
+        None => return Ok(None),
+    };
     let version = Version {
         name: Label::from_bytes(Vec::new(alloc)),
         body,
@@ -190,22 +187,24 @@ fn program_of(alloc: Global, body: Body) -> Result<Arc<Program>, AllocError>
         versions: List::from_vec(vec![in alloc; version]?),
     };
     let functions = List::from_vec(vec![in alloc; main]?);
-    Ok(Arc::new(alloc, Program::of_functions(functions, FunId(0)))?)
+    let program = Program::of_functions(functions, FunId(0));
+    Ok(Some(Arc::new(alloc, program)?))
 }
 
-/// A program that prints a value and then ends with this instruction.
-fn printing(alloc: Global, printed: Literal, last: Instr) -> Result<Arc<Program>, AllocError>
-    requires ends { IsTerminator last }
-    requires needs { needed last ≡ [] }
-{
+/// A program that prints a value and then does this instruction, which has to be a terminator.
+fn printing(
+    alloc: Global,
+    printed: Literal,
+    last: Instr,
+) -> Result<Option<Arc<Program>>, AllocError> {
     let first = line(alloc, b'a', Instr::Print(plain(printed)))?;
     let second = line(alloc, b'b', last)?;
     let lines = List::from_vec(vec![in alloc; first, second]?);
-    program_of(alloc, Body::new(FunId(0), 0, Names::new(alloc), lines))
+    program_of(alloc, Names::new(alloc), lines)
 }
 
 /// A program that reads a number, adds 1 to it, prints the sum, and returns what it reads next.
-fn reading(alloc: Global) -> Result<Arc<Program>, AllocError> {
+fn reading(alloc: Global) -> Result<Option<Arc<Program>>, AllocError> {
     let x = VarId(0);
     let sum = Expr::Binary(Op::Add, Simple::Var(x), Simple::Lit(Literal::Number(1)));
     let first = line(alloc, b'a', Instr::Read(x))?;
@@ -216,7 +215,7 @@ fn reading(alloc: Global) -> Result<Arc<Program>, AllocError> {
     let lines = List::from_vec(vec![in alloc; first, second, third, fourth, fifth]?);
     let mut names = Names::new(alloc);
     names.add(vec![in alloc; b'x']?)?;
-    program_of(alloc, Body::new(FunId(0), 0, names, lines))
+    program_of(alloc, names, lines)
 }
 
 /// What a program answers to a request for some turns on an input, and the report on it.
@@ -236,19 +235,22 @@ fn run(
 #[test]
 fn reads_its_input(rt: HostRuntime) -> Result<(), Fail> {
     let (number, truth) = (Literal::Number(41), Literal::Truth(true));
-    let (answer, report) = run(rt.alloc(), reading(rt.alloc())?, &[number, truth], 1)?;
+    let program = reading(rt.alloc())?.expect(&rt, "a body");
+    let (answer, report) = run(rt.alloc(), program, &[number, truth], 1)?;
     assert_eq!(rt; answer, Advance::Ended);
     assert_eq!(rt; report.end, End::Returned(Value::Plain(truth)));
     assert_eq!(rt; report.output.as_slice(), b"42\n".as_slice());
     assert_eq!(rt; [report.read, report.turns], [2, 1]);
 
-    let (answer, report) = run(rt.alloc(), reading(rt.alloc())?, &[number], 1)?;
+    let program = reading(rt.alloc())?.expect(&rt, "a body");
+    let (answer, report) = run(rt.alloc(), program, &[number], 1)?;
     assert_eq!(rt; answer, Advance::Ended);
     assert_eq!(rt; report.end, End::Trapped(Trap::InputEnd));
     assert_eq!(rt; report.output.as_slice(), b"42\n".as_slice());
     assert_eq!(rt; [report.read, report.turns], [1, 0]);
 
-    let (_, report) = run(rt.alloc(), reading(rt.alloc())?, &[truth], 1)?;
+    let program = reading(rt.alloc())?.expect(&rt, "a body");
+    let (_, report) = run(rt.alloc(), program, &[truth], 1)?;
     assert_eq!(rt; report.end, End::Trapped(Trap::BadType));
     Ok(())
 }
@@ -256,7 +258,7 @@ fn reads_its_input(rt: HostRuntime) -> Result<(), Fail> {
 #[test]
 fn returns(rt: HostRuntime) -> Result<(), Fail> {
     let last = Instr::Return(plain(Literal::Number(0)));
-    let program = printing(rt.alloc(), Literal::Number(7), last)?;
+    let program = printing(rt.alloc(), Literal::Number(7), last)?.expect(&rt, "a body");
     let (answer, report) = run(rt.alloc(), program, &[Literal::Nil], 1)?;
     assert_eq!(rt; answer, Advance::Ended);
     assert_eq!(rt; report.end, End::Returned(Value::Plain(Literal::Number(0))));
@@ -270,17 +272,20 @@ fn returns(rt: HostRuntime) -> Result<(), Fail> {
 
 #[test]
 fn rests_before_a_turn(rt: HostRuntime) -> Result<(), Fail> {
-    let last = Instr::Return(plain(Literal::Nil));
-    let program = printing(rt.alloc(), Literal::Number(7), last)?;
+    let label = Label::from_bytes(vec![in rt.alloc(); b'a']?);
+    let looping = printing(rt.alloc(), Literal::Number(7), Instr::Goto(label))?;
+    let program = looping.expect(&rt, "a body");
     let mut run = Run::start(rt.alloc(), program, &[])?;
     assert_eq!(rt; run.advance_text(0), Advance::MoreTurns);
     assert_eq!(rt; run.turns(), 0);
+    assert_eq!(rt; run.advance_text(2), Advance::MoreTurns);
+    assert_eq!(rt; run.turns(), 2);
     let report = run.finish(1);
     assert_eq!(rt; report.end, End::Cut);
-    assert_eq!(rt; report.output.as_slice(), b"7\n".as_slice());
+    assert_eq!(rt; report.output.as_slice(), b"7\n7\n7\n".as_slice());
     assert_eq!(rt;
         [report.input, report.read, report.turns, report.calls],
-        [1, 0, 0, 1]
+        [1, 0, 2, 1]
     );
     Ok(())
 }
@@ -296,7 +301,7 @@ fn prints_each_kind_of_value(rt: HostRuntime) -> Result<(), Fail> {
         (Literal::Nil, b"nil\n"),
     ];
     for (value, text) in values {
-        let program = printing(rt.alloc(), value, Instr::Stop)?;
+        let program = printing(rt.alloc(), value, Instr::Stop)?.expect(&rt, "a body");
         let (answer, report) = run(rt.alloc(), program, &[], 0)?;
         assert_eq!(rt; answer, Advance::Ended);
         assert_eq!(rt; report.end, End::Stopped);

@@ -8,7 +8,8 @@ use Rattle.sour_reader.specs.declared.fault.TextFault.{TextFault}
 use Rattle.sour_reader.specs.declared.fault.TextFault.TheVariants as text
 use Rattle.sour_reader.specs.Fault.{text_fault}
 
-unplaced_line : (fault : LineFault) → text_fault fault ≡ text.Unplaced → fault ≡ line.NoToken
+-- the fault of a line that makes the text unplaced
+pub unplaced_line : (fault : LineFault) → text_fault fault ≡ text.Unplaced → fault ≡ line.NoToken
 unplaced_line line.NoToken is = refl
 unplaced_line line.Memory is = cc
 

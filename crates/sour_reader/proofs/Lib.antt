@@ -1,19 +1,19 @@
+-- Lemmas of the reader.
 pub mod Digits
-pub mod Faults
-pub mod Fronts
-pub mod Headings
-pub mod InputLaws
-pub mod Jobs
-pub mod LabelLaws
-pub mod Lists
+mod Faults
 pub mod Prefixes
-pub mod Programs
-pub mod Numbering
-pub mod Steps
-pub mod Sharing
-pub mod Operands
-pub mod Operators
-pub mod Expressions
-pub mod Instructions
-pub mod ScopeLaws
+pub mod Readings
+pub mod MentionLaws
+pub mod BodyLaws
+pub mod HeadingLaws
+pub mod FunctionLaws
 pub mod ValueLaws
+pub mod InputLaws
+pub mod JobLaws
+pub mod Found
+pub mod Instructions
+pub mod Labelled
+pub mod Labels
+pub mod Lists
+pub mod Operands
+pub mod Expressions

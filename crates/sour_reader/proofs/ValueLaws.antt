@@ -3,18 +3,24 @@ use Rattle.std.proofs.Common.{◌≡◌, ◌≢◌, ◌↔◌, ℕ, zero, suc, �
 use Rattle.std.proofs.lemmas.List.{drop-drop}
 use Rattle.std.specs.Prelude.{codes}
 use Rattle.std.specs.List.{AllByRecursion}
-use Rattle.sour_syntax.specs.declared.literal.Literal.{Literal}
+use Rattle.sour_reader.specs.declared.raw.RawLiteral.{RawLiteral}
+use Rattle.sour_reader.specs.declared.raw.RawInput.{RawInput}
 use Rattle.sour_reader.specs.Literal.{SpellsLiteral}
-use Rattle.sour_reader.specs.Inputs.{SpellsValues, SpellsInput}
-use Rattle.sour_reader.specs.Reading.{operand_length}
-use Rattle.sour_reader.proofs.Operands.{literal_length, IsLiteralOf}
+use Rattle.sour_reader.specs.Inputs.{SpellsValues}
+use Rattle.sour_reader.specs.Operand.{operand_length}
+use Rattle.sour_reader.specs.Front.{IsInput}
+use Rattle.sour_reader.proofs.Operands.{literal_length}
 use Rattle.sour_reader.proofs.Expressions.{same_parts}
 use Rattle.sour_reader.proofs.Prefixes.{ReadsOn, reads_on_none, reads_on_more}
 
+-- the literal that the tokens are, or none
+abbrev pub IsLiteralOf : List (List ℕ) → Option RawLiteral → Type 0
+IsLiteralOf tokens found = (literal : RawLiteral) → SpellsLiteral literal tokens ↔ (found ≡ Some literal)
+
 -- the first value, and what is behind it
-record FirstValue (values : List Literal) (tokens : List (List ℕ)) : Type 0 where
-  value : Literal
-  others : List Literal
+record FirstValue (values : List RawLiteral) (tokens : List (List ℕ)) : Type 0 where
+  value : RawLiteral
+  others : List RawLiteral
   front : List (List ℕ)
   rest : List (List ℕ)
   is : values ≡ value ∷ others
@@ -23,7 +29,7 @@ record FirstValue (values : List Literal) (tokens : List (List ℕ)) : Type 0 wh
   more : SpellsValues others rest
   count : operand_length tokens ≡ length front
 
-first_value : (values : List Literal) (tokens : List (List ℕ)) → 0 < length tokens → SpellsValues values tokens → FirstValue values tokens
+first_value : (values : List RawLiteral) (tokens : List (List ℕ)) → 0 < length tokens → SpellsValues values tokens → FirstValue values tokens
 first_value [] tokens some spelled = absurd (omega (arith, ap length spelled))
 first_value (value ∷ values) tokens some (front, rest, whole, spelled, more) = record {
   value = value;
@@ -38,11 +44,11 @@ first_value (value ∷ values) tokens some (front, rest, whole, spelled, more) =
 }
 
 -- one value, and then what is behind it
-next_value : (tokens front rest : List (List ℕ)) (value : Literal) → 0 < length tokens → tokens ≡ front ++ rest → length front ≡ operand_length tokens → IsLiteralOf front (Some value)
+next_value : (tokens front rest : List (List ℕ)) (value : RawLiteral) → 0 < length tokens → tokens ≡ front ++ rest → length front ≡ operand_length tokens → IsLiteralOf front (Some value)
     → ReadsOn (λ values. SpellsValues values tokens) (value ∷ []) (λ values. SpellsValues values rest)
 next_value tokens front rest value some whole count spells values = (to, from)
   where
-    to : SpellsValues values tokens → (others : List Literal) × (values ≡ value ∷ others) × SpellsValues others rest
+    to : SpellsValues values tokens → (others : List RawLiteral) × (values ≡ value ∷ others) × SpellsValues others rest
     to spelled =
         let first = first_value values tokens some spelled in
         let same = same_parts first.front first.rest front rest (sym first.whole ∙ whole) (sym first.count ∙ sym count) in
@@ -50,13 +56,13 @@ next_value tokens front rest value some whole count spells values = (to, from)
         let equal : first.value ≡ value = cc in
         (first.others, first.is ∙ ap (λ it. it ∷ first.others) equal, subst (SpellsValues first.others) same.1 first.more)
 
-    from : (others : List Literal) × (values ≡ value ∷ others) × SpellsValues others rest → SpellsValues values tokens
+    from : (others : List RawLiteral) × (values ≡ value ∷ others) × SpellsValues others rest → SpellsValues values tokens
     from (others, is, more) =
         let one : SpellsValues (value ∷ others) tokens = (front, rest, whole, (spells value).1 refl, more) in
         subst (λ all. SpellsValues all tokens) (sym is) one
 
 -- no value, where too few tokens are left
-no_value_short : (tokens : List (List ℕ)) (values : List Literal) → 0 < length tokens → length tokens < operand_length tokens → SpellsValues values tokens → ⊥
+no_value_short : (tokens : List (List ℕ)) (values : List RawLiteral) → 0 < length tokens → length tokens < operand_length tokens → SpellsValues values tokens → ⊥
 no_value_short tokens values some short spelled =
     let first = first_value values tokens some spelled in
     let all = ap length first.whole ∙ length-append first.front first.rest in
@@ -64,7 +70,7 @@ no_value_short tokens values some short spelled =
     absurd (omega arith)
 
 -- or where the first are none
-no_value : (tokens front rest : List (List ℕ)) (values : List Literal) → 0 < length tokens → tokens ≡ front ++ rest → length front ≡ operand_length tokens → IsLiteralOf front None → SpellsValues values tokens → ⊥
+no_value : (tokens front rest : List (List ℕ)) (values : List RawLiteral) → 0 < length tokens → tokens ≡ front ++ rest → length front ≡ operand_length tokens → IsLiteralOf front None → SpellsValues values tokens → ⊥
 no_value tokens front rest values some whole count spells spelled =
     let first = first_value values tokens some spelled in
     let same = same_parts first.front first.rest front rest (sym first.whole ∙ whole) (sym first.count ∙ sym count) in
@@ -72,32 +78,25 @@ no_value tokens front rest values some whole count spells spelled =
     cc
 
 -- the values that were read so far, and how the tokens go on after them
-pub record ValuesSoFar (tokens : List (List ℕ)) (values : List Literal) (rest : List (List ℕ)) : Type 0 where
+pub record ValuesSoFar (tokens : List (List ℕ)) (values : List RawLiteral) (rest : List (List ℕ)) : Type 0 where
   pub limit : length values ≤ 65536
   pub exact : ReadsOn (λ all. SpellsValues all tokens) values (λ others. SpellsValues others rest)
 
 -- these values, at most so many
-abbrev pub AreValuesOf : List (List ℕ) → Option (List Literal) → Type 0
-AreValuesOf tokens found = (values : List Literal) → (SpellsValues values tokens × (length values ≤ 65536)) ↔ (found ≡ Some values)
+abbrev pub AreValuesOf : List (List ℕ) → Option (List RawLiteral) → Type 0
+AreValuesOf tokens found = (values : List RawLiteral) → (SpellsValues values tokens × (length values ≤ 65536)) ↔ (found ≡ Some values)
 
 pub values_so_far_none : (tokens : List (List ℕ)) → ValuesSoFar tokens [] tokens
 values_so_far_none tokens = record { limit = omega arith; exact = reads_on_none (λ all. SpellsValues all tokens) }
 
-pub values_so_far_more : (tokens : List (List ℕ)) (values : List Literal) (rest front behind : List (List ℕ)) (value : Literal) → ValuesSoFar tokens values rest → length values < 65536 → 0 < length rest → rest ≡ front ++ behind → length front ≡ operand_length rest → IsLiteralOf front (Some value)
-    → ValuesSoFar tokens (values ++ value ∷ []) behind
-values_so_far_more tokens values rest front behind value so_far few some whole count spells = record {
-  limit = omega (arith, length-append values (value ∷ []));
-  exact = reads_on_more (λ all. SpellsValues all tokens) (λ all. SpellsValues all rest) (λ all. SpellsValues all behind) values value so_far.exact (next_value rest front behind value some whole count spells);
-}
-
-nothing : (tokens : List (List ℕ)) → ((values : List Literal) → SpellsValues values tokens → length values ≤ 65536 → ⊥) → AreValuesOf tokens None
+nothing : (tokens : List (List ℕ)) → ((values : List RawLiteral) → SpellsValues values tokens → length values ≤ 65536 → ⊥) → AreValuesOf tokens None
 nothing tokens none values = ((λ (spelled, limit). absurd (none values spelled limit)), λ is. cc)
 
 -- more values than an input has
-pub too_many_values : (tokens : List (List ℕ)) (values : List Literal) (rest : List (List ℕ)) → ValuesSoFar tokens values rest → 65536 ≤ length values → 0 < length rest → AreValuesOf tokens None
+pub too_many_values : (tokens : List (List ℕ)) (values : List RawLiteral) (rest : List (List ℕ)) → ValuesSoFar tokens values rest → 65536 ≤ length values → 0 < length rest → AreValuesOf tokens None
 too_many_values tokens values rest so_far many some = nothing tokens none
   where
-    none : (all : List Literal) → SpellsValues all tokens → length all ≤ 65536 → ⊥
+    none : (all : List RawLiteral) → SpellsValues all tokens → length all ≤ 65536 → ⊥
     none all spelled limit =
         let more = (so_far.exact all).0 spelled in
         let first = first_value more.0 rest some more.2 in
@@ -105,21 +104,11 @@ too_many_values tokens values rest so_far many some = nothing tokens none
         let both = ap length more.1 ∙ length-append values more.0 in
         absurd (omega arith)
 
--- too few tokens for one more
-pub short_value : (tokens : List (List ℕ)) (values : List Literal) (rest : List (List ℕ)) → ValuesSoFar tokens values rest → 0 < length rest → length rest < operand_length rest → AreValuesOf tokens None
-short_value tokens values rest so_far some short =
-    nothing tokens (λ all spelled limit. let more = (so_far.exact all).0 spelled in no_value_short rest more.0 some short more.2)
-
--- tokens that are no value
-pub other_value : (tokens : List (List ℕ)) (values : List Literal) (rest front behind : List (List ℕ)) → ValuesSoFar tokens values rest → 0 < length rest → rest ≡ front ++ behind → length front ≡ operand_length rest → IsLiteralOf front None → AreValuesOf tokens None
-other_value tokens values rest front behind so_far some whole count spells =
-    nothing tokens (λ all spelled limit. let more = (so_far.exact all).0 spelled in no_value rest front behind more.0 some whole count spells more.2)
-
 -- all values
-pub whole_values : (tokens : List (List ℕ)) (values : List Literal) (rest : List (List ℕ)) → ValuesSoFar tokens values rest → rest ≡ [] → AreValuesOf tokens (Some values)
+pub whole_values : (tokens : List (List ℕ)) (values : List RawLiteral) (rest : List (List ℕ)) → ValuesSoFar tokens values rest → rest ≡ [] → AreValuesOf tokens (Some values)
 whole_values tokens values rest so_far none all = (to, from)
   where
-    ended : (others : List Literal) → SpellsValues others [] → others ≡ []
+    ended : (others : List RawLiteral) → SpellsValues others [] → others ≡ []
     ended [] spelled = refl
     ended (value ∷ others) (front, behind, whole, spelled, more) =
         let count = literal_length value front behind spelled in
@@ -140,49 +129,50 @@ whole_values tokens values rest so_far none all = (to, from)
         ((so_far.exact values).1 ([], sym (append-nil values), subst (SpellsValues []) (sym none) refl), so_far.limit)
 
 -- the input that the line is, or none
-abbrev pub IsInputOf : List (List ℕ) → Option (List Literal) → Type 0
-IsInputOf tokens found = (input : List Literal) → SpellsInput input tokens ↔ (found ≡ Some input)
+abbrev pub IsInputOf : List (List ℕ) → Option RawInput → Type 0
+IsInputOf tokens found = (input : RawInput) → IsInput input tokens ↔ (found ≡ Some input)
 
-pub input_behind : (word : List ℕ) (tokens : List (List ℕ)) (found : Option (List Literal)) → word ≡ codes "input" → AreValuesOf tokens found → IsInputOf (word ∷ tokens) found
-input_behind word tokens found is values input = (to, from)
+pub input_behind : (word : List ℕ) (tokens : List (List ℕ)) (values : List RawLiteral) → word ≡ codes "input" → AreValuesOf tokens (Some values) → IsInputOf (word ∷ tokens) (Some (record { values = values }))
+input_behind word tokens values is are input = (to, from)
   where
-    to : SpellsInput input (word ∷ tokens) → found ≡ Some input
-    to (own, whole, spelled, limit) = let same : own ≡ tokens = cc in (values input).0 (subst (SpellsValues input) same spelled, limit)
+    made : List RawLiteral → RawInput
+    made all = record { values = all }
 
-    from : found ≡ Some input → SpellsInput input (word ∷ tokens)
-    from some = let all = (values input).1 some in (tokens, ap (λ it. it ∷ tokens) is, all.0, all.1)
+    to : IsInput input (word ∷ tokens) → Some (made values) ≡ Some input
+    to ((own, whole, spelled), limit) =
+        let same : own ≡ tokens = cc in
+        let some = (are input.values).0 (subst (SpellsValues input.values) same spelled, limit) in
+        let equal : values ≡ input.values = cc in
+        ap (λ all. Some (made all)) equal
 
-pub no_input_word : (word : List ℕ) (tokens : List (List ℕ)) → word ≢ codes "input" → IsInputOf (word ∷ tokens) None
-no_input_word word tokens other input = (
-  (λ (own, whole, spelled, limit). let same : word ≡ codes "input" = cc in absurd (other same)),
-  λ is. cc,
-)
-
-pub no_input_tokens : IsInputOf [] None
-no_input_tokens input = ((λ (own, whole, spelled, limit). cc), λ is. cc)
+    from : Some (made values) ≡ Some input → IsInput input (word ∷ tokens)
+    from some =
+        let same : made values ≡ input = cc in
+        let all = (are values).1 refl in
+        subst (λ it. IsInput it (word ∷ tokens)) same ((tokens, ap (λ it. it ∷ tokens) is, all.0), all.1)
 
 -- the first value as `first_value` gives it
-abbrev pub IsFirst : List (List ℕ) → Literal → List (List ℕ) → Type 0
-IsFirst tokens value rest = (values : List Literal) → SpellsValues values tokens ↔ ((others : List Literal) × (values ≡ value ∷ others) × SpellsValues others rest)
+abbrev pub IsFirst : List (List ℕ) → RawLiteral → List (List ℕ) → Type 0
+IsFirst tokens value rest = (values : List RawLiteral) → SpellsValues values tokens ↔ ((others : List RawLiteral) × (values ≡ value ∷ others) × SpellsValues others rest)
 
-pub first_read : (tokens front rest : List (List ℕ)) (value : Literal) → 0 < length tokens → tokens ≡ front ++ rest → length front ≡ operand_length tokens → IsLiteralOf front (Some value) → IsFirst tokens value rest
+pub first_read : (tokens front rest : List (List ℕ)) (value : RawLiteral) → 0 < length tokens → tokens ≡ front ++ rest → length front ≡ operand_length tokens → IsLiteralOf front (Some value) → IsFirst tokens value rest
 first_read tokens front rest value some whole count spells = next_value tokens front rest value some whole count spells
 
-pub first_short : (tokens : List (List ℕ)) → 0 < length tokens → length tokens < operand_length tokens → (values : List Literal) → SpellsValues values tokens → ⊥
+pub first_short : (tokens : List (List ℕ)) → 0 < length tokens → length tokens < operand_length tokens → (values : List RawLiteral) → SpellsValues values tokens → ⊥
 first_short tokens some short values spelled = no_value_short tokens values some short spelled
 
-pub first_other : (tokens front rest : List (List ℕ)) → 0 < length tokens → tokens ≡ front ++ rest → length front ≡ operand_length tokens → IsLiteralOf front None → (values : List Literal) → SpellsValues values tokens → ⊥
+pub first_other : (tokens front rest : List (List ℕ)) → 0 < length tokens → tokens ≡ front ++ rest → length front ≡ operand_length tokens → IsLiteralOf front None → (values : List RawLiteral) → SpellsValues values tokens → ⊥
 first_other tokens front rest some whole count spells values spelled = no_value tokens front rest values some whole count spells spelled
 
 -- one value more
-pub values_more : (tokens : List (List ℕ)) (values : List Literal) (rest behind : List (List ℕ)) (value : Literal) → ValuesSoFar tokens values rest → length values < 65536 → IsFirst rest value behind → ValuesSoFar tokens (values ++ value ∷ []) behind
+pub values_more : (tokens : List (List ℕ)) (values : List RawLiteral) (rest behind : List (List ℕ)) (value : RawLiteral) → ValuesSoFar tokens values rest → length values < 65536 → IsFirst rest value behind → ValuesSoFar tokens (values ++ value ∷ []) behind
 values_more tokens values rest behind value so_far few first = record {
   limit = omega (arith, length-append values (value ∷ []));
   exact = reads_on_more (λ all. SpellsValues all tokens) (λ all. SpellsValues all rest) (λ all. SpellsValues all behind) values value so_far.exact first;
 }
 
 -- no value where there should be one more
-pub no_value_more : (tokens : List (List ℕ)) (values : List Literal) (rest : List (List ℕ)) → ValuesSoFar tokens values rest → ((others : List Literal) → SpellsValues others rest → ⊥) → AreValuesOf tokens None
+pub no_value_more : (tokens : List (List ℕ)) (values : List RawLiteral) (rest : List (List ℕ)) → ValuesSoFar tokens values rest → ((others : List RawLiteral) → SpellsValues others rest → ⊥) → AreValuesOf tokens None
 no_value_more tokens values rest so_far none =
     nothing tokens (λ all spelled limit. let more = (so_far.exact all).0 spelled in none more.0 more.2)
 

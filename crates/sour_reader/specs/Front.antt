@@ -1,54 +1,122 @@
--- What stands at the front of a text, by its lines of tokens.
-use Rattle.std.specs.Prelude.{◌≡◌, ◌↔◌, ℕ, List, ◌∷◌, ◌++◌}
-use Rattle.sour_tokens.specs.Text.{HasTokenLines}
-use Rattle.sour_syntax.specs.declared.literal.Literal.{Literal}
-use Rattle.sour_syntax.specs.declared.instruction.Instr.{Instr}
-use Rattle.sour_syntax.specs.declared.instruction.Line.{Line}
+-- What lines spell before the lines that follow them.
+use Rattle.std.specs.Prelude.{◌≡◌, ◌≤◌, ◌⊎◌, ℕ, List, [], ◌∷◌, ◌++◌, length, codes, ⊤}
+use Rattle.std.specs.List.{AllByRecursion}
+use Rattle.sour_reader.specs.declared.raw.RawLine.{RawLine}
+use Rattle.sour_reader.specs.declared.raw.RawVersion.{RawVersion}
+use Rattle.sour_reader.specs.declared.raw.RawFunction.{RawFunction}
+use Rattle.sour_reader.specs.declared.raw.RawInput.{RawInput}
+use Rattle.sour_reader.specs.declared.raw.RawJob.{RawJob}
+use Rattle.sour_reader.specs.declared.heading.FunctionHeading.{FunctionHeading}
 use Rattle.sour_reader.specs.Name.{IsName}
-use Rattle.sour_reader.specs.Variables.{mentions_of, Adds}
-use Rattle.sour_reader.specs.Reading.{ReadsInstr}
-use Rattle.sour_reader.specs.Version.{SpellsLines, EndsOnce}
-use Rattle.sour_reader.specs.Inputs.{SpellsEachInput, SpellsInputs}
-use Rattle.sour_reader.specs.Job.{function_heading, version_heading}
+use Rattle.sour_reader.specs.Mentions.{variables_of}
+use Rattle.sour_reader.specs.Instruction.{SpellsLine}
+use Rattle.sour_reader.specs.Inputs.{SpellsInput, inputs_heading}
+use Rattle.sour_reader.specs.Limits.{IsShortInput}
+use Rattle.sour_reader.specs.Job.{version_heading, parameters_spelling, function_end}
+use Rattle.sour_reader.specs.Ahead.{OneLine, EachUpTo}
 
--- the first line of the text is this one and no other, and after it come the lines of the rest and no others
-abbrev pub BeginsWithLine : List ℕ → List (List ℕ) → List ℕ → Type 0
-BeginsWithLine text line rest =
-    (first : List (List ℕ)) (after : List (List (List ℕ))) → HasTokenLines text (first ∷ after) ↔ ((first ≡ line) × HasTokenLines rest after)
+-- the line begins with the word with which a version begins or a function ends
+abbrev pub BeginsVersionOrEnd : List (List ℕ) → Type 0
+BeginsVersionOrEnd [] = ⊥
+BeginsVersionOrEnd (token ∷ tokens) = (token ≡ codes "ver") ⊎ (token ≡ codes "end")
 
--- the lines of the text are the heading of the function, that of a version of this name, and these after them
-pub record BeginsWithHeadings (text : List ℕ) (name : List ℕ) (after : List (List (List ℕ))) : Type 0 where
-  pub whole : HasTokenLines text (function_heading ∷ version_heading name ∷ after)
-  pub named : IsName name
+-- the next line is one of which B is true
+abbrev pub NextIs : (List (List ℕ) → Type 0) → List (List (List ℕ)) → Type 0
+NextIs B [] = ⊥
+NextIs B (tokens ∷ lines) = B tokens
 
--- the lines of the text are one that reads as the instruction, from the old variables to the new, and these after it
-pub record BeginsWithInstr (text : List ℕ) (old : List (List ℕ)) (instr : Instr) (new : List (List ℕ)) (after : List (List (List ℕ))) : Type 0 where
-  pub tokens : List (List ℕ)
-  pub whole : HasTokenLines text (tokens ∷ after)
-  pub reads : ReadsInstr old tokens instr new
+-- the lines behind those of a version
+abbrev pub EndVersion : List (List (List ℕ)) → Type 0
+EndVersion lines = NextIs BeginsVersionOrEnd lines
 
--- the lines of the text are one that reads as this instruction, to these variables, and as nothing besides, and then those of the rest
-abbrev pub BeginsWithOnly : List ℕ → List (List ℕ) → Instr → List (List ℕ) → List ℕ → Type 0
-BeginsWithOnly text old instr new rest =
-    (other : Instr) (variables : List (List ℕ)) (after : List (List (List ℕ))) → BeginsWithInstr text old other variables after
-    ↔ ((other ≡ instr) × (variables ≡ new) × HasTokenLines rest after)
+-- not too many lines and variables
+abbrev pub AreShort : List (List ℕ) → List RawLine → Type 0
+AreShort parameters body = (length body ≤ 4096) × (length (variables_of parameters body) ≤ 1024)
 
--- the lines of the text are those that spell the lines of a version from this place to its last, from the old variables to the new, and these after them
-pub record BeginsWithBody (text : List ℕ) (place : ℕ) (old : List (List ℕ)) (body : List Line) (new : List (List ℕ)) (after : List (List (List ℕ))) : Type 0 where
-  pub front : List (List (List ℕ))
-  pub whole : HasTokenLines text (front ++ after)
-  pub spelled : SpellsLines new place body front
-  pub ended : EndsOnce body
-  pub adds : Adds old (mentions_of body) new
+-- the lines of a version with these parameters
+abbrev pub HasBody : List (List ℕ) → List RawLine → List (List (List ℕ)) → List (List (List ℕ)) → Type 0
+HasBody parameters body lines after = EachUpTo (OneLine SpellsLine) EndVersion body lines after × AreShort parameters body
 
--- the lines of the text spell each input, one a line
-pub record HasEachInput (text : List ℕ) (inputs : List (List Literal)) : Type 0 where
-  pub lines : List (List (List ℕ))
-  pub whole : HasTokenLines text lines
-  pub spelled : SpellsEachInput inputs lines
+-- the line is the heading of a version of this name
+abbrev pub IsVersionHeading : List ℕ → List (List ℕ) → Type 0
+IsVersionHeading name tokens = (tokens ≡ version_heading name) × IsName name
 
--- the lines of the text spell the inputs, or there are neither lines nor inputs
-pub record HasInputs (text : List ℕ) (inputs : List (List Literal)) : Type 0 where
-  pub lines : List (List (List ℕ))
-  pub whole : HasTokenLines text lines
-  pub spelled : SpellsInputs inputs lines
+-- a version of a function with these parameters
+abbrev pub HasVersion : List (List ℕ) → RawVersion → List (List (List ℕ)) → List (List (List ℕ)) → Type 0
+HasVersion parameters version lines after =
+    (rest : List (List (List ℕ))) × OneLine IsVersionHeading version.name lines rest × HasBody parameters version.lines rest after
+
+-- the line with which a function ends
+abbrev pub IsFunctionEnd : List (List ℕ) → Type 0
+IsFunctionEnd tokens = tokens ≡ function_end
+
+-- the lines from the end of a function on
+abbrev pub EndFunction : List (List (List ℕ)) → Type 0
+EndFunction lines = NextIs IsFunctionEnd lines
+
+-- some, and at most so many
+abbrev pub AreSome : {X : Type 0} → ℕ → List X → Type 0
+AreSome {X} most xs = ¬ (xs ≡ []) × (length xs ≤ most)
+
+-- the versions of a function with these parameters
+abbrev pub HasVersions : List (List ℕ) → List RawVersion → List (List (List ℕ)) → List (List (List ℕ)) → Type 0
+HasVersions parameters versions lines after = EachUpTo (HasVersion parameters) EndFunction versions lines after × AreSome 16 versions
+
+-- the tokens list these parameters, one or more, `)` behind them
+abbrev pub ListsSome : List (List ℕ) → List (List ℕ) → Type 0
+ListsSome [] tokens = ⊥
+ListsSome (name ∷ names) tokens = (tokens ≡ parameters_spelling (name ∷ names) ++ codes ")" ∷ []) × AllByRecursion IsName (name ∷ names)
+
+-- the tokens behind `(` of the heading of a function list these parameters, not too many
+abbrev pub ListsParameters : List (List ℕ) → List (List ℕ) → Type 0
+ListsParameters parameters tokens =
+    (tokens ≡ parameters_spelling parameters ++ codes ")" ∷ []) × AllByRecursion IsName parameters × (length parameters ≤ 255)
+
+-- the line is this heading of a function
+abbrev pub IsFunctionHeading : FunctionHeading → List (List ℕ) → Type 0
+IsFunctionHeading heading tokens =
+    (rest : List (List ℕ)) × (tokens ≡ codes "fun" ∷ heading.name ∷ codes "(" ∷ rest) × IsName heading.name × ListsParameters heading.parameters rest
+
+-- the heading with which a function begins
+abbrev pub heading_of : RawFunction → FunctionHeading
+heading_of function = record { name = function.name; parameters = function.parameters }
+
+-- a function
+abbrev pub HasFunction : RawFunction → List (List (List ℕ)) → List (List (List ℕ)) → Type 0
+HasFunction function lines after =
+    (rest : List (List (List ℕ))) × OneLine IsFunctionHeading (heading_of function) lines rest × HasVersions function.parameters function.versions rest (function_end ∷ after)
+
+-- the tokens of the line behind the functions, none where no line is there
+abbrev pub AreBehindFunctions : List (List ℕ) → Type 0
+AreBehindFunctions [] = ⊤
+AreBehindFunctions (token ∷ tokens) = token ∷ tokens ≡ inputs_heading
+
+-- the lines behind the functions
+abbrev pub EndFunctions : List (List (List ℕ)) → Type 0
+EndFunctions [] = ⊤
+EndFunctions (tokens ∷ lines) = tokens ≡ inputs_heading
+
+-- the functions of a text
+abbrev pub HasFunctions : List RawFunction → List (List (List ℕ)) → List (List (List ℕ)) → Type 0
+HasFunctions functions lines after = EachUpTo HasFunction EndFunctions functions lines after × AreSome 256 functions
+
+-- the line is this input, of not too many values
+abbrev pub IsInput : RawInput → List (List ℕ) → Type 0
+IsInput input tokens = SpellsInput input tokens × IsShortInput input
+
+-- no lines
+abbrev pub EndText : List (List (List ℕ)) → Type 0
+EndText lines = lines ≡ []
+
+-- the inputs behind their heading, up to the end of the text
+abbrev pub HasEachInput : List RawInput → List (List (List ℕ)) → List (List (List ℕ)) → Type 0
+HasEachInput inputs lines after = EachUpTo (OneLine IsInput) EndText inputs lines after × (length inputs ≤ 4096)
+
+-- no lines and no inputs, or the heading and the inputs
+abbrev pub HasInputs : List RawInput → List (List (List ℕ)) → List (List (List ℕ)) → Type 0
+HasInputs inputs [] after = (inputs ≡ []) × (after ≡ [])
+HasInputs inputs (heading ∷ lines) after = (heading ≡ inputs_heading) × HasEachInput inputs lines after
+
+-- a whole job
+abbrev pub HasJob : RawJob → List (List (List ℕ)) → List (List (List ℕ)) → Type 0
+HasJob job lines after = (rest : List (List (List ℕ))) × HasFunctions job.functions lines rest × HasInputs job.inputs rest after

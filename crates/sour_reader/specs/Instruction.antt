@@ -1,46 +1,66 @@
--- How instructions are spelled, where these are the names of the variables.
-use Rattle.std.specs.Prelude.{◌≡◌, ℕ, List, [], ◌∷◌, ◌++◌, Some, codes, slice_get}
-use Rattle.sour_syntax.specs.declared.literal.VarId.{VarId}
-use Rattle.sour_syntax.specs.declared.expression.Simple.{Simple}
-use Rattle.sour_syntax.specs.declared.expression.Simple.TheVariants as simple
-use Rattle.sour_syntax.specs.declared.expression.Expr.{Expr}
-use Rattle.sour_syntax.specs.declared.expression.Expr.TheVariants as expr
-use Rattle.sour_syntax.specs.declared.instruction.Instr.{Instr}
-use Rattle.sour_syntax.specs.declared.instruction.Instr.TheVariants.{Var, Assign, Print, Read, Return, Stop}
+-- How instructions and their labels are spelled, one line for each.
+use Rattle.std.specs.Prelude.{◌≡◌, ◌⊎◌, ℕ, List, [], ◌∷◌, ◌++◌, Option, None, Some, codes}
+use Rattle.sour_tokens.specs.Token.{IsDigits}
+use Rattle.sour_reader.specs.declared.raw.RawSimple.{RawSimple}
+use Rattle.sour_reader.specs.declared.raw.RawSimple.TheVariants as simple
+use Rattle.sour_reader.specs.declared.raw.RawExpr.{RawExpr}
+use Rattle.sour_reader.specs.declared.raw.RawExpr.TheVariants as expr
+use Rattle.sour_reader.specs.declared.raw.RawInstr.{RawInstr}
+use Rattle.sour_reader.specs.declared.raw.RawInstr.TheVariants.{Var, Drop, Assign, Print, Read, Branch, Goto, Return, Stop}
+use Rattle.sour_reader.specs.declared.raw.RawLine.{RawLine}
 use Rattle.sour_reader.specs.Literal.{SpellsLiteral}
 use Rattle.sour_reader.specs.Name.{IsName}
 use Rattle.sour_reader.specs.Operator.{op_spelling}
 
--- the token is a name, that of the variable
-abbrev pub SpellsVariable : List (List ℕ) → VarId → List ℕ → Type 0
-SpellsVariable variables x token = IsName token × (slice_get variables x.0 ≡ Some token)
-
 -- the tokens spell the operand
-abbrev pub SpellsSimple : List (List ℕ) → Simple → List (List ℕ) → Type 0
-SpellsSimple variables (simple.Lit literal) tokens = SpellsLiteral literal tokens
-SpellsSimple variables (simple.Var x) tokens = (token : List ℕ) × (tokens ≡ token ∷ []) × SpellsVariable variables x token
+abbrev pub SpellsSimple : RawSimple → List (List ℕ) → Type 0
+SpellsSimple (simple.Lit literal) tokens = SpellsLiteral literal tokens
+SpellsSimple (simple.Name name) tokens = (tokens ≡ name ∷ []) × IsName name
 
 -- the tokens spell the expression
-abbrev pub SpellsExpr : List (List ℕ) → Expr → List (List ℕ) → Type 0
-SpellsExpr variables (expr.Plain a) tokens = SpellsSimple variables a tokens
-SpellsExpr variables (expr.Not a) tokens =
-    (operand : List (List ℕ)) × (tokens ≡ codes "!" ∷ operand) × SpellsSimple variables a operand
-SpellsExpr variables (expr.Binary op a b) tokens =
+abbrev pub SpellsExpr : RawExpr → List (List ℕ) → Type 0
+SpellsExpr (expr.Plain a) tokens = SpellsSimple a tokens
+SpellsExpr (expr.Not a) tokens =
+    (operand : List (List ℕ)) × (tokens ≡ codes "!" ∷ operand) × SpellsSimple a operand
+SpellsExpr (expr.Binary op a b) tokens =
     (left : List (List ℕ)) × (right : List (List ℕ)) × (tokens ≡ left ++ op_spelling op ∷ right)
-    × SpellsSimple variables a left × SpellsSimple variables b right
+    × SpellsSimple a left × SpellsSimple b right
+
+-- a decimal number without leading zeros
+abbrev pub IsDecimal : List ℕ → Type 0
+IsDecimal [] = ⊥
+IsDecimal (digit ∷ []) = IsDigits (digit ∷ [])
+IsDecimal (digit ∷ other ∷ digits) = ¬ (digit ≡ 48) × IsDigits (digit ∷ other ∷ digits)
+
+-- `_` and a decimal number
+abbrev pub IsAutomaticLabel : List ℕ → Type 0
+IsAutomaticLabel bytes = (digits : List ℕ) × (bytes ≡ 95 ∷ digits) × IsDecimal digits
+
+-- a label where an instruction goes to it: a name, or one that no text gives
+abbrev pub IsLabel : List ℕ → Type 0
+IsLabel bytes = IsName bytes ⊎ IsAutomaticLabel bytes
 
 -- the tokens spell the instruction
-abbrev pub SpellsInstr : List (List ℕ) → Instr → List (List ℕ) → Type 0
-SpellsInstr variables (Var x e) tokens =
-    (name : List ℕ) × (value : List (List ℕ)) × (tokens ≡ codes "var" ∷ name ∷ codes "=" ∷ value)
-    × SpellsVariable variables x name × SpellsExpr variables e value
-SpellsInstr variables (Assign x e) tokens =
-    (name : List ℕ) × (value : List (List ℕ)) × (tokens ≡ name ∷ codes "<-" ∷ value)
-    × SpellsVariable variables x name × SpellsExpr variables e value
-SpellsInstr variables (Print e) tokens =
-    (value : List (List ℕ)) × (tokens ≡ codes "print" ∷ value) × SpellsExpr variables e value
-SpellsInstr variables (Read x) tokens =
-    (name : List ℕ) × (tokens ≡ codes "read" ∷ name ∷ []) × SpellsVariable variables x name
-SpellsInstr variables (Return e) tokens =
-    (value : List (List ℕ)) × (tokens ≡ codes "return" ∷ value) × SpellsExpr variables e value
-SpellsInstr variables Stop tokens = tokens ≡ codes "stop" ∷ []
+abbrev pub SpellsInstr : RawInstr → List (List ℕ) → Type 0
+SpellsInstr (Var x e) tokens =
+    (value : List (List ℕ)) × (tokens ≡ codes "var" ∷ x ∷ codes "=" ∷ value) × IsName x × SpellsExpr e value
+SpellsInstr (Drop x) tokens = (tokens ≡ codes "drop" ∷ x ∷ []) × IsName x
+SpellsInstr (Assign x e) tokens =
+    (value : List (List ℕ)) × (tokens ≡ x ∷ codes "<-" ∷ value) × IsName x × SpellsExpr e value
+SpellsInstr (Print e) tokens = (value : List (List ℕ)) × (tokens ≡ codes "print" ∷ value) × SpellsExpr e value
+SpellsInstr (Read x) tokens = (tokens ≡ codes "read" ∷ x ∷ []) × IsName x
+SpellsInstr (Branch e a b) tokens =
+    (value : List (List ℕ)) × (tokens ≡ codes "branch" ∷ value ++ a ∷ b ∷ []) × SpellsExpr e value × IsLabel a × IsLabel b
+SpellsInstr (Goto a) tokens = (tokens ≡ codes "goto" ∷ a ∷ []) × IsLabel a
+SpellsInstr (Return e) tokens = (value : List (List ℕ)) × (tokens ≡ codes "return" ∷ value) × SpellsExpr e value
+SpellsInstr Stop tokens = tokens ≡ codes "stop" ∷ []
+
+-- the tokens spell the instruction, behind the label and `:` where there is a label
+abbrev pub SpellsLabelled : Option (List ℕ) → RawInstr → List (List ℕ) → Type 0
+SpellsLabelled None instr tokens = SpellsInstr instr tokens
+SpellsLabelled (Some label) instr tokens =
+    (rest : List (List ℕ)) × (tokens ≡ label ∷ codes ":" ∷ rest) × IsName label × SpellsInstr instr rest
+
+-- the tokens spell the line
+abbrev pub SpellsLine : RawLine → List (List ℕ) → Type 0
+SpellsLine line tokens = SpellsLabelled line.label line.instr tokens

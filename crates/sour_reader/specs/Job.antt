@@ -1,61 +1,79 @@
--- Which program and inputs a text reads as.
-use Rattle.std.specs.Prelude.{◌≡◌, ◌≤◌, ℕ, List, [], ◌∷◌, ◌++◌, length, codes}
+-- What a text reads as.
+use Rattle.std.specs.Prelude.{◌≡◌, ℕ, List, [], ◌∷◌, ◌++◌, codes, ⊤}
+use Rattle.std.specs.List.{AllByRecursion}
 use Rattle.sour_tokens.specs.Text.{HasTokenLines}
-use Rattle.sour_syntax.specs.Program.{ProgramView}
-use Rattle.sour_syntax.specs.BodyView.{BodyView}
-use Rattle.sour_syntax.specs.Scopes.{HasScopes}
-use Rattle.sour_syntax.specs.declared.literal.Literal.{Literal}
-use Rattle.sour_syntax.specs.declared.instruction.Line.{Line}
+use Rattle.sour_reader.specs.declared.raw.RawLine.{RawLine}
+use Rattle.sour_reader.specs.declared.raw.RawVersion.{RawVersion}
+use Rattle.sour_reader.specs.declared.raw.RawFunction.{RawFunction}
+use Rattle.sour_reader.specs.declared.raw.RawJob.{RawJob}
 use Rattle.sour_reader.specs.Name.{IsName}
-use Rattle.sour_reader.specs.Variables.{mentions_of, NumbersInOrder, AreVariables}
-use Rattle.sour_reader.specs.Version.{SpellsLines, EndsOnce}
+use Rattle.sour_reader.specs.Instruction.{SpellsLine}
 use Rattle.sour_reader.specs.Inputs.{SpellsInputs}
+use Rattle.sour_reader.specs.Limits.{IsShort}
 
--- the line with which the function begins
-abbrev pub function_heading : List (List ℕ)
-function_heading = codes "fun" ∷ codes "main" ∷ codes "(" ∷ codes ")" ∷ []
+-- one line of tokens for each line
+abbrev pub SpellsLines : List RawLine → List (List (List ℕ)) → Type 0
+SpellsLines [] [] = ⊤
+SpellsLines [] (tokens ∷ others) = ⊥
+SpellsLines (line ∷ lines) [] = ⊥
+SpellsLines (line ∷ lines) (tokens ∷ others) = SpellsLine line tokens × SpellsLines lines others
 
 -- the line with which a version of this name begins
 abbrev pub version_heading : List ℕ → List (List ℕ)
 version_heading name = codes "ver" ∷ name ∷ []
 
--- the line with which the function ends
+-- the heading, and then the lines
+abbrev pub SpellsVersion : RawVersion → List (List (List ℕ)) → Type 0
+SpellsVersion version text =
+    (lines : List (List (List ℕ))) × (text ≡ version_heading version.name ∷ lines) × IsName version.name × SpellsLines version.lines lines
+
+-- the versions, one behind the other
+abbrev pub SpellsVersions : List RawVersion → List (List (List ℕ)) → Type 0
+SpellsVersions [] text = text ≡ []
+SpellsVersions (version ∷ versions) text =
+    (front : List (List (List ℕ))) × (rest : List (List (List ℕ))) × (text ≡ front ++ rest) × SpellsVersion version front × SpellsVersions versions rest
+
+-- names with commas between them
+abbrev pub parameters_spelling : List (List ℕ) → List (List ℕ)
+parameters_spelling [] = []
+parameters_spelling (name ∷ []) = name ∷ []
+parameters_spelling (name ∷ other ∷ names) = name ∷ codes "," ∷ parameters_spelling (other ∷ names)
+
+-- the line with which a function of this name and with these parameters begins
+abbrev pub function_heading : List ℕ → List (List ℕ) → List (List ℕ)
+function_heading name parameters = codes "fun" ∷ name ∷ codes "(" ∷ parameters_spelling parameters ++ codes ")" ∷ []
+
+-- the line with which a function ends
 abbrev pub function_end : List (List ℕ)
 function_end = codes "end" ∷ []
 
--- the body of a version of main with these variables and these lines
-abbrev pub main_body : List (List ℕ) → List Line → BodyView
-main_body variables lines = record { function = record { 0 = 0 }; parameters = 0; variables = variables; lines = lines }
+-- the heading, one version or more, and the end
+pub record SpellsFunction (function : RawFunction) (text : List (List (List ℕ))) : Type 0 where
+  pub lines : List (List (List ℕ))
+  pub whole : text ≡ function_heading function.name function.parameters ∷ lines ++ function_end ∷ []
+  pub name : IsName function.name
+  pub parameters : AllByRecursion IsName function.parameters
+  pub some : ¬ (function.versions ≡ [])
+  pub versions : SpellsVersions function.versions lines
 
--- the program whose one function is main, with one version that has this name, these variables and these lines
-abbrev pub main_program : List ℕ → List (List ℕ) → List Line → ProgramView
-main_program name variables lines = record {
-  functions = record {
-    name = codes "main";
-    versions = record { name = name; body = main_body variables lines } ∷ [];
-  } ∷ [];
-  main = record { 0 = 0 };
-}
+-- the functions, one behind the other
+abbrev pub SpellsFunctions : List RawFunction → List (List (List ℕ)) → Type 0
+SpellsFunctions [] text = text ≡ []
+SpellsFunctions (function ∷ functions) text =
+    (front : List (List (List ℕ))) × (rest : List (List (List ℕ))) × (text ≡ front ++ rest) × SpellsFunction function front × SpellsFunctions functions rest
 
--- the lines of tokens read as this program and these inputs
-pub record ReadsLines (text : List (List (List ℕ))) (program : ProgramView) (inputs : List (List Literal)) : Type 0 where
-  pub version : List ℕ
-  pub variables : List (List ℕ)
-  pub lines : List Line
-  pub instructions : List (List (List ℕ))
-  pub rest : List (List (List ℕ))
-  pub whole : text ≡ function_heading ∷ version_heading version ∷ instructions ++ function_end ∷ rest
-  pub named : IsName version
-  pub spelled : SpellsLines variables 0 lines instructions
-  pub ended : EndsOnce lines
-  pub limited : length lines ≤ 4096
-  pub numbered : NumbersInOrder 0 (mentions_of lines) (length variables)
-  pub known : AreVariables variables
-  pub scopes : HasScopes (main_body variables lines)
-  pub made : program ≡ main_program version variables lines
-  pub given : SpellsInputs inputs rest
+-- one function or more, and then the inputs
+pub record SpellsJob (job : RawJob) (text : List (List (List ℕ))) : Type 0 where
+  pub functions : List (List (List ℕ))
+  pub inputs : List (List (List ℕ))
+  pub whole : text ≡ functions ++ inputs
+  pub some : ¬ (job.functions ≡ [])
+  pub each : SpellsFunctions job.functions functions
+  pub given : SpellsInputs job.inputs inputs
 
--- the bytes read as this program and these inputs
-abbrev pub Reads : List ℕ → ProgramView → List (List Literal) → Type 0
-Reads bytes program inputs =
-    (text : List (List (List ℕ))) × HasTokenLines bytes text × ReadsLines text program inputs
+-- the bytes read as this job
+pub record Reads (bytes : List ℕ) (job : RawJob) : Type 0 where
+  pub lines : List (List (List ℕ))
+  pub whole : HasTokenLines bytes lines
+  pub spelled : SpellsJob job lines
+  pub short : IsShort job

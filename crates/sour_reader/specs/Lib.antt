@@ -1,12 +1,13 @@
 pub mod Name
 pub mod Literal
 pub mod Operator
-pub mod Variables
+pub mod Operand
 pub mod Instruction
-pub mod Reading
-pub mod Version
-pub mod Scope
+pub mod Parts
+pub mod Mentions
 pub mod Inputs
+pub mod Limits
 pub mod Job
 pub mod Fault
+pub mod Ahead
 pub mod Front

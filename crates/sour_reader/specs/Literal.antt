@@ -3,8 +3,8 @@ use Rattle.std.specs.Prelude.{◌≡◌, ℕ, ℤ, pos, neg_ℤ, true, false, Li
 use Rattle.std.specs.Int.{w64}
 use Rattle.std.specs.Str.Parse.{digits_value}
 use Rattle.sour_tokens.specs.Token.{IsDigits}
-use Rattle.sour_syntax.specs.declared.literal.Literal.{Literal}
-use Rattle.sour_syntax.specs.declared.literal.Literal.TheVariants.{Number, Truth, Nil}
+use Rattle.sour_reader.specs.declared.raw.RawLiteral.{RawLiteral}
+use Rattle.sour_reader.specs.declared.raw.RawLiteral.TheVariants.{Number, Truth, Nil}
 
 -- digits, or `-` and digits, whose number fits 64 bits
 abbrev pub SpellsNumber : ℤ → List (List ℕ) → Type 0
@@ -15,7 +15,7 @@ SpellsNumber n (sign ∷ digits ∷ []) =
 SpellsNumber n (sign ∷ digits ∷ other ∷ tokens) = ⊥
 
 -- the tokens spell the literal
-abbrev pub SpellsLiteral : Literal → List (List ℕ) → Type 0
+abbrev pub SpellsLiteral : RawLiteral → List (List ℕ) → Type 0
 SpellsLiteral (Number n) tokens = SpellsNumber n tokens
 SpellsLiteral (Truth true) tokens = tokens ≡ codes "true" ∷ []
 SpellsLiteral (Truth false) tokens = tokens ≡ codes "false" ∷ []

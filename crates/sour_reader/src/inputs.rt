@@ -1,35 +1,39 @@
 //! The inputs of a text.
 
-ghost use Rattle.std.specs.Prelude.{◌≡◌, ◌≤◌, ◌<◌, ◌↔◌, ◌∷◌, List as Listed, map, drop, IfSome, IfNone, length, IfOk, IsErrOf};
+ghost use Rattle.std.specs.Prelude.{◌≡◌, ◌≤◌, ◌<◌, ◌↔◌, ◌∷◌, [], List as Listed, map, drop, IfSome, IfNone, Some, length, IfOk, OnOk, IsErrOf};
 ghost use Rattle.std.specs.List.{AllByRecursion};
 ghost use Rattle.sour_tokens.specs.Token.{spelling, IsOfItsKind};
-ghost use Rattle.sour_syntax.specs.declared.literal.Literal.{Literal};
-ghost use Rattle.sour_reader.specs.Inputs.{SpellsValues, SpellsInput};
-ghost use Rattle.sour_reader.specs.Front.{HasEachInput, HasInputs};
+ghost use Rattle.sour_reader.specs.declared.raw.RawLiteral.{RawLiteral};
+ghost use Rattle.sour_reader.specs.declared.raw.RawInput.{RawInput};
+ghost use Rattle.sour_reader.specs.Inputs.{SpellsValues};
+ghost use Rattle.sour_reader.specs.Ahead.{ReadsAs, ReadsAsNone};
+ghost use Rattle.sour_reader.specs.Front.{IsInput, HasEachInput, HasInputs};
 
+use crate::ahead::LinesAhead;
 use crate::fault::TextFault;
 use crate::heading::is_inputs_heading;
 use crate::kind::is_word;
 use crate::literal::literal_of;
 use crate::operand::operand_length;
-use sour_syntax::{List, Literal};
-use sour_tokens::{Token, TokenLines};
+use crate::raw::{RawInput, RawLiteral};
+use sour_syntax::List;
+use sour_tokens::Token;
 use std::alloc::{AllocError, Global};
 
 /// The most inputs that a text has.
-pub const MAX_INPUTS: usize = 4096;
+const MAX_INPUTS: usize = 4096;
 
 /// The most values that an input has.
-pub const MAX_VALUES: usize = 65536;
+const MAX_VALUES: usize = 65536;
 
 /// The value that these tokens begin with, and how many of them spell it.
-fn first_value(tokens: &[Token]) -> Option<(Literal, usize)>
+fn first_value(tokens: &[Token]) -> Option<(RawLiteral, usize)>
     requires kinds { AllByRecursion IsOfItsKind tokens.now }
     requires some { 0 < length tokens.now }
-    ensures found { IfSome result (λ first. (values : Listed Literal) → SpellsValues values (map spelling tokens.now)
-        ↔ ((others : Listed Literal) × (values ≡ first.0 ∷ others) × SpellsValues others (map spelling (drop first.1 tokens.now)))) }
+    ensures found { IfSome result (λ first. (values : Listed RawLiteral) → SpellsValues values (map spelling tokens.now)
+        ↔ ((others : Listed RawLiteral) × (values ≡ first.0 ∷ others) × SpellsValues others (map spelling (drop first.1 tokens.now)))) }
     ensures count { IfSome result (λ first. (0 < first.1) × (first.1 ≤ length tokens.now)) }
-    ensures none { IfNone result ((values : Listed Literal) → SpellsValues values (map spelling tokens.now) → ⊥) }
+    ensures none { IfNone result ((values : Listed RawLiteral) → SpellsValues values (map spelling tokens.now) → ⊥) }
 {
     let count = operand_length(tokens);
     if tokens.len() < count {
@@ -42,9 +46,9 @@ fn first_value(tokens: &[Token]) -> Option<(Literal, usize)>
 }
 
 /// The values that these tokens spell.
-fn values_of(alloc: Global, tokens: &[Token]) -> Result<Option<List<Literal>>, AllocError>
+fn values_of(alloc: Global, tokens: &[Token]) -> Result<Option<List<RawLiteral>>, AllocError>
     requires { AllByRecursion IsOfItsKind tokens.now }
-    ensures { IfOk result (λ found. (values : Listed Literal) →
+    ensures { IfOk result (λ found. (values : Listed RawLiteral) →
         (SpellsValues values (map spelling tokens.now) × (length values ≤ 65536)) ↔ (found ≡ Some values)) }
 {
     let mut values = List::new(alloc);
@@ -63,62 +67,60 @@ fn values_of(alloc: Global, tokens: &[Token]) -> Result<Option<List<Literal>>, A
 }
 
 /// The input that these tokens spell.
-fn input_of(alloc: Global, tokens: &[Token]) -> Result<Option<List<Literal>>, AllocError>
+fn input_of(alloc: Global, tokens: &[Token]) -> Result<Option<RawInput>, AllocError>
     requires { AllByRecursion IsOfItsKind tokens.now }
-    ensures { IfOk result (λ found. (input : Listed Literal) → SpellsInput input (map spelling tokens.now) ↔ (found ≡ Some input)) }
+    ensures { IfOk result (λ found. (input : RawInput) → IsInput input (map spelling tokens.now) ↔ (found ≡ Some input)) }
 {
-    let Some((word, values)) = tokens.split_first() else {
+    let Some((word, rest)) = tokens.split_first() else {
         return Ok(None);
     };
-    if is_word(word, b"input") {
-        values_of(alloc, values)
-    } else {
-        Ok(None)
+    if !is_word(word, b"input") {
+        return Ok(None);
+    }
+    match values_of(alloc, rest)? {
+        Some(values) => Ok(Some(RawInput { values })),
+        None => Ok(None),
     }
 }
 
-/// The inputs in the lines that are left of the text.
+/// The inputs, one a line, up to the end of the text.
 fn read_each_input<'a>(
     alloc: Global,
-    lines: &mut TokenLines<'a>,
-    tokens: &mut Vec<Token<'a>>,
-) -> Result<List<List<Literal>>, TextFault>
-    ensures found { IfOk result (λ inputs. (others : Listed (Listed Literal)) →
-        HasEachInput lines.old others ↔ (others ≡ inputs)) }
-    ensures limit { IfOk result (λ inputs. length inputs ≤ 4096) }
-    ensures unplaced { IsErrOf result TextFault.Unplaced →
-        (inputs : Listed (Listed Literal)) → HasEachInput lines.old inputs → length inputs ≤ 4096 → ⊥ }
+    ahead: &mut LinesAhead<'a>,
+) -> Result<List<RawInput>, TextFault>
+    ensures found { IfOk result (ReadsAs HasEachInput ahead.old ahead.new) }
+    ensures ended { OnOk result (ahead.new.next ≡ []) }
+    ensures unplaced { IsErrOf result TextFault.Unplaced → ReadsAsNone HasEachInput ahead.old }
 {
     let mut inputs = List::new(alloc);
-    while lines.next_line(tokens)? {
+    while !ahead.is_at_end() {
         if inputs.len() >= MAX_INPUTS {
             return Err(TextFault::Unplaced);
         }
-        let Some(input) = input_of(alloc, tokens.as_slice())? else {
+        let Some(input) = input_of(alloc, ahead.tokens())? else {
             return Err(TextFault::Unplaced);
         };
         inputs.push(input)?;
+        ahead.advance()?;
     }
     Ok(inputs)
 }
 
 /// The inputs of the text, with their heading, where the text isn't at its end.
-pub fn read_inputs<'a>(
+pub(crate) fn read_inputs<'a>(
     alloc: Global,
-    lines: &mut TokenLines<'a>,
-    tokens: &mut Vec<Token<'a>>,
-) -> Result<List<List<Literal>>, TextFault>
-    ensures found { IfOk result (λ inputs. (others : Listed (Listed Literal)) →
-        HasInputs lines.old others ↔ (others ≡ inputs)) }
-    ensures limit { IfOk result (λ inputs. length inputs ≤ 4096) }
-    ensures unplaced { IsErrOf result TextFault.Unplaced →
-        (inputs : Listed (Listed Literal)) → HasInputs lines.old inputs → ⊥ }
+    ahead: &mut LinesAhead<'a>,
+) -> Result<List<RawInput>, TextFault>
+    ensures found { IfOk result (ReadsAs HasInputs ahead.old ahead.new) }
+    ensures ended { OnOk result (ahead.new.next ≡ []) }
+    ensures unplaced { IsErrOf result TextFault.Unplaced → ReadsAsNone HasInputs ahead.old }
 {
-    if !lines.next_line(tokens)? {
+    if ahead.is_at_end() {
         return Ok(List::new(alloc));
     }
-    if !is_inputs_heading(tokens.as_slice()) {
+    if !is_inputs_heading(ahead.tokens()) {
         return Err(TextFault::Unplaced);
     }
-    read_each_input(alloc, lines, tokens)
+    ahead.advance()?;
+    read_each_input(alloc, ahead)
 }

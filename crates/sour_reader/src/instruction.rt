@@ -1,81 +1,68 @@
 //! Instructions.
 
-ghost use Rattle.std.specs.Prelude.{◌≡◌, ◌↔◌, ◌∷◌, [], map, codes, IsTrue, IfOk};
+ghost use Rattle.std.specs.Prelude.{◌≡◌, ◌↔◌, ◌∷◌, ℕ, List, Some, map, codes, IfOk};
 ghost use Rattle.std.specs.List.{AllByRecursion};
 ghost use Rattle.sour_tokens.specs.Symbol.{symbol_spelling};
 ghost use Rattle.sour_tokens.specs.Token.{spelling, IsOfItsKind};
-ghost use Rattle.sour_syntax.specs.Terminator.{IsTerminator};
-ghost use Rattle.sour_reader.specs.Variables.{AreVariables, Finds};
-ghost use Rattle.sour_reader.specs.Reading.{ReadsSetting, ReadsSettingBehind, ReadsInstr, BeginsNone};
+ghost use Rattle.sour_reader.specs.declared.raw.RawExpr.{RawExpr};
+ghost use Rattle.sour_reader.specs.declared.raw.RawInstr.{RawInstr};
+ghost use Rattle.sour_reader.specs.Instruction.{SpellsInstr};
+ghost use Rattle.sour_reader.specs.Parts.{SpellsSetting, BeginsNone};
 
 use crate::expression::expression_of;
 use crate::kind::{is_symbol, is_word};
-use crate::variable::variable_of;
-use sour_syntax::{Expr, Instr, Names, VarId};
+use crate::label::{label_of, name_of, only_label, only_name};
+use crate::raw::{RawExpr, RawInstr};
+use sour_syntax::Label;
 use sour_tokens::{Symbol, Token};
 use std::alloc::{AllocError, Global};
 
-/// The variable of this name, and the value that these tokens spell.
+/// The name that a token is, and the value that is spelled behind the sign.
 fn setting_of(
     alloc: Global,
     name: &Token,
-    value: &[Token],
-    names: &mut Names,
-) -> Result<Option<(VarId, Expr)>, AllocError>
+    sign: Symbol,
+    behind: &[Token],
+) -> Result<Option<(Label, RawExpr)>, AllocError>
     requires kind { IsOfItsKind name.now }
-    requires kinds { AllByRecursion IsOfItsKind value.now }
-    requires variables { AreVariables names.old }
-    ensures { IfOk result (λ found. Finds (ReadsSetting names.old (spelling name.now) (map spelling value.now)) found names.new) }
+    requires kinds { AllByRecursion IsOfItsKind behind.now }
+    ensures { IfOk result (λ found. (setting : List ℕ × RawExpr) → SpellsSetting (symbol_spelling sign) setting.0 setting.1 (spelling name.now ∷ map spelling behind.now) ↔ (found ≡ Some setting)) }
 {
-    let Some(x) = variable_of(alloc, name, names)? else {
+    let Some((own, value)) = behind.split_first() else {
         return Ok(None);
     };
-    match expression_of(alloc, value, names)? {
+    if !is_symbol(own, sign) {
+        return Ok(None);
+    }
+    let Some(x) = name_of(alloc, name)? else {
+        return Ok(None);
+    };
+    match expression_of(alloc, value)? {
         Some(e) => Ok(Some((x, e))),
         None => Ok(None),
     }
 }
 
-/// The variable of this name, and the value that is spelled behind its sign.
-fn setting_behind(
-    alloc: Global,
-    name: &Token,
-    sign: Symbol,
-    tokens: &[Token],
-    names: &mut Names,
-) -> Result<Option<(VarId, Expr)>, AllocError>
-    requires kind { IsOfItsKind name.now }
-    requires kinds { AllByRecursion IsOfItsKind tokens.now }
-    requires variables { AreVariables names.old }
-    ensures { IfOk result (λ found. Finds (ReadsSettingBehind names.old (spelling name.now) (symbol_spelling sign) (map spelling tokens.now)) found names.new) }
-{
-    let Some((first, value)) = tokens.split_first() else {
-        return Ok(None);
-    };
-    if is_symbol(first, sign) {
-        setting_of(alloc, name, value, names)
-    } else {
-        Ok(None)
-    }
-}
-
 /// The declaration that `var` and these tokens spell.
-fn declaration_of(
-    alloc: Global,
-    tokens: &[Token],
-    names: &mut Names,
-) -> Result<Option<Instr>, AllocError>
-    requires kinds { AllByRecursion IsOfItsKind tokens.now }
-    requires variables { AreVariables names.old }
-    ensures { IfOk result (λ found. Finds (ReadsInstr names.old (codes "var" ∷ map spelling tokens.now)) found names.new) }
+fn declaration_of(alloc: Global, tokens: &[Token]) -> Result<Option<RawInstr>, AllocError>
+    requires { AllByRecursion IsOfItsKind tokens.now }
+    ensures { IfOk result (λ found. (instr : RawInstr) → SpellsInstr instr (codes "var" ∷ map spelling tokens.now) ↔ (found ≡ Some instr)) }
 {
     let Some((name, behind)) = tokens.split_first() else {
         return Ok(None);
     };
-    match setting_behind(alloc, name, Symbol::Equal, behind, names)? {
-        Some((x, e)) => Ok(Some(Instr::Var(x, e))),
+    match setting_of(alloc, name, Symbol::Equal, behind)? {
+        Some((x, e)) => Ok(Some(RawInstr::Var(x, e))),
         None => Ok(None),
     }
+}
+
+/// The instruction that `drop` and these tokens spell.
+fn drop_of(alloc: Global, tokens: &[Token]) -> Result<Option<RawInstr>, AllocError>
+    requires { AllByRecursion IsOfItsKind tokens.now }
+    ensures { IfOk result (λ found. (instr : RawInstr) → SpellsInstr instr (codes "drop" ∷ map spelling tokens.now) ↔ (found ≡ Some instr)) }
+{
+    Ok(only_name(alloc, tokens)?.map(RawInstr::Drop))
 }
 
 /// The assignment that a first token, with which no other instruction begins, and these tokens spell.
@@ -83,106 +70,109 @@ fn assignment_of(
     alloc: Global,
     name: &Token,
     behind: &[Token],
-    names: &mut Names,
-) -> Result<Option<Instr>, AllocError>
+) -> Result<Option<RawInstr>, AllocError>
     requires kind { IsOfItsKind name.now }
     requires begins { BeginsNone (spelling name.now) }
     requires kinds { AllByRecursion IsOfItsKind behind.now }
-    requires variables { AreVariables names.old }
-    ensures { IfOk result (λ found. Finds (ReadsInstr names.old (spelling name.now ∷ map spelling behind.now)) found names.new) }
+    ensures { IfOk result (λ found. (instr : RawInstr) → SpellsInstr instr (spelling name.now ∷ map spelling behind.now) ↔ (found ≡ Some instr)) }
 {
-    match setting_behind(alloc, name, Symbol::Arrow, behind, names)? {
-        Some((x, e)) => Ok(Some(Instr::Assign(x, e))),
+    match setting_of(alloc, name, Symbol::Arrow, behind)? {
+        Some((x, e)) => Ok(Some(RawInstr::Assign(x, e))),
         None => Ok(None),
     }
 }
 
 /// The instruction that `print` and these tokens spell.
-fn print_of(alloc: Global, tokens: &[Token], names: &mut Names) -> Result<Option<Instr>, AllocError>
-    requires kinds { AllByRecursion IsOfItsKind tokens.now }
-    requires variables { AreVariables names.old }
-    ensures { IfOk result (λ found. Finds (ReadsInstr names.old (codes "print" ∷ map spelling tokens.now)) found names.new) }
+fn print_of(alloc: Global, tokens: &[Token]) -> Result<Option<RawInstr>, AllocError>
+    requires { AllByRecursion IsOfItsKind tokens.now }
+    ensures { IfOk result (λ found. (instr : RawInstr) → SpellsInstr instr (codes "print" ∷ map spelling tokens.now) ↔ (found ≡ Some instr)) }
 {
-    match expression_of(alloc, tokens, names)? {
-        Some(e) => Ok(Some(Instr::Print(e))),
-        None => Ok(None),
-    }
-}
-
-/// The instruction that `return` and these tokens spell.
-fn return_of(
-    alloc: Global,
-    tokens: &[Token],
-    names: &mut Names,
-) -> Result<Option<Instr>, AllocError>
-    requires kinds { AllByRecursion IsOfItsKind tokens.now }
-    requires variables { AreVariables names.old }
-    ensures { IfOk result (λ found. Finds (ReadsInstr names.old (codes "return" ∷ map spelling tokens.now)) found names.new) }
-{
-    match expression_of(alloc, tokens, names)? {
-        Some(e) => Ok(Some(Instr::Return(e))),
-        None => Ok(None),
-    }
+    Ok(expression_of(alloc, tokens)?.map(RawInstr::Print))
 }
 
 /// The instruction that `read` and these tokens spell.
-fn read_of(alloc: Global, tokens: &[Token], names: &mut Names) -> Result<Option<Instr>, AllocError>
-    requires kinds { AllByRecursion IsOfItsKind tokens.now }
-    requires variables { AreVariables names.old }
-    ensures { IfOk result (λ found. Finds (ReadsInstr names.old (codes "read" ∷ map spelling tokens.now)) found names.new) }
+fn read_of(alloc: Global, tokens: &[Token]) -> Result<Option<RawInstr>, AllocError>
+    requires { AllByRecursion IsOfItsKind tokens.now }
+    ensures { IfOk result (λ found. (instr : RawInstr) → SpellsInstr instr (codes "read" ∷ map spelling tokens.now) ↔ (found ≡ Some instr)) }
 {
-    let Some((name, others)) = tokens.split_first() else {
+    Ok(only_name(alloc, tokens)?.map(RawInstr::Read))
+}
+
+/// The instruction that `branch` and these tokens spell. The last two are its labels.
+fn branch_of(alloc: Global, tokens: &[Token]) -> Result<Option<RawInstr>, AllocError>
+    requires { AllByRecursion IsOfItsKind tokens.now }
+    ensures { IfOk result (λ found. (instr : RawInstr) → SpellsInstr instr (codes "branch" ∷ map spelling tokens.now) ↔ (found ≡ Some instr)) }
+{
+    let Some((last, front)) = tokens.split_last() else {
         return Ok(None);
     };
-    if !others.is_empty() {
+    let Some((next, value)) = front.split_last() else {
         return Ok(None);
-    }
-    match variable_of(alloc, name, names)? {
-        Some(x) => Ok(Some(Instr::Read(x))),
+    };
+    let Some(a) = label_of(alloc, next)? else {
+        return Ok(None);
+    };
+    let Some(b) = label_of(alloc, last)? else {
+        return Ok(None);
+    };
+    match expression_of(alloc, value)? {
+        Some(e) => Ok(Some(RawInstr::Branch(e, a, b))),
         None => Ok(None),
+    }
+}
+
+/// The instruction that `goto` and these tokens spell.
+fn goto_of(alloc: Global, tokens: &[Token]) -> Result<Option<RawInstr>, AllocError>
+    requires { AllByRecursion IsOfItsKind tokens.now }
+    ensures { IfOk result (λ found. (instr : RawInstr) → SpellsInstr instr (codes "goto" ∷ map spelling tokens.now) ↔ (found ≡ Some instr)) }
+{
+    Ok(only_label(alloc, tokens)?.map(RawInstr::Goto))
+}
+
+/// The instruction that `return` and these tokens spell.
+fn return_of(alloc: Global, tokens: &[Token]) -> Result<Option<RawInstr>, AllocError>
+    requires { AllByRecursion IsOfItsKind tokens.now }
+    ensures { IfOk result (λ found. (instr : RawInstr) → SpellsInstr instr (codes "return" ∷ map spelling tokens.now) ↔ (found ≡ Some instr)) }
+{
+    Ok(expression_of(alloc, tokens)?.map(RawInstr::Return))
+}
+
+/// The instruction that `stop` and these tokens spell.
+fn stop_of(tokens: &[Token]) -> Option<RawInstr>
+    ensures { (instr : RawInstr) → SpellsInstr instr (codes "stop" ∷ map spelling tokens.now) ↔ (result ≡ Some instr) }
+{
+    if tokens.is_empty() {
+        Some(RawInstr::Stop)
+    } else {
+        None
     }
 }
 
 /// The instruction that these tokens spell.
-pub fn instruction_of(
-    alloc: Global,
-    tokens: &[Token],
-    names: &mut Names,
-) -> Result<Option<Instr>, AllocError>
-    requires kinds { AllByRecursion IsOfItsKind tokens.now }
-    requires variables { AreVariables names.old }
-    ensures { IfOk result (λ found. Finds (ReadsInstr names.old (map spelling tokens.now)) found names.new) }
+pub fn instruction_of(alloc: Global, tokens: &[Token]) -> Result<Option<RawInstr>, AllocError>
+    requires { AllByRecursion IsOfItsKind tokens.now }
+    ensures { IfOk result (λ found. (instr : RawInstr) → SpellsInstr instr (map spelling tokens.now) ↔ (found ≡ Some instr)) }
 {
     let Some((first, rest)) = tokens.split_first() else {
         return Ok(None);
     };
     if is_word(first, b"var") {
-        declaration_of(alloc, rest, names)
+        declaration_of(alloc, rest)
+    } else if is_word(first, b"drop") {
+        drop_of(alloc, rest)
     } else if is_word(first, b"print") {
-        print_of(alloc, rest, names)
+        print_of(alloc, rest)
     } else if is_word(first, b"read") {
-        read_of(alloc, rest, names)
+        read_of(alloc, rest)
+    } else if is_word(first, b"branch") {
+        branch_of(alloc, rest)
+    } else if is_word(first, b"goto") {
+        goto_of(alloc, rest)
     } else if is_word(first, b"return") {
-        return_of(alloc, rest, names)
-    } else if !is_word(first, b"stop") {
-        assignment_of(alloc, first, rest, names)
-    } else if rest.is_empty() {
-        Ok(Some(Instr::Stop))
+        return_of(alloc, rest)
+    } else if is_word(first, b"stop") {
+        Ok(stop_of(rest))
     } else {
-        Ok(None)
-    }
-}
-
-/// Whether nothing follows the instruction in its version.
-pub fn is_terminator(instr: &Instr) -> bool
-    ensures { IsTrue result ↔ IsTerminator instr.now }
-{
-    match instr {
-        Instr::Var(_, _) => false,
-        Instr::Assign(_, _) => false,
-        Instr::Print(_) => false,
-        Instr::Read(_) => false,
-        Instr::Return(_) => true,
-        Instr::Stop => true,
+        assignment_of(alloc, first, rest)
     }
 }

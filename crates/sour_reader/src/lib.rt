@@ -1,41 +1,50 @@
-//! The second half of the reader: it reads the lines of tokens of a text as a program and its inputs.
-//! This version reads texts of one function with one version, by this grammar, in which a line is one
-//! that has tokens:
+//! The second half of the reader: it reads the lines of tokens of a text, with names as they are
+//! written, by this grammar, in which a line is one that has tokens:
 //!
 //! ```text
-//! job         = function [inputs]
-//! function    = line "fun" "main" "(" ")", version, line "end"
-//! version     = line "ver" name, 1 to 4096 lines of an instruction each
-//! instruction = "var" name "=" expression | name "<-" expression | "print" expression | "read" name
-//!             | "return" expression | "stop"
+//! job         = function {function} [inputs]
+//! function    = line "fun" name "(" [name {"," name}] ")", version {version}, line "end"
+//! version     = line "ver" name, {line [name ":"] instruction}
+//! instruction = "var" name "=" expression | "drop" name | name "<-" expression | "print" expression
+//!             | "read" name | "branch" expression label label | "goto" label | "return" expression
+//!             | "stop"
 //! expression  = operand | "!" operand | operand operator operand
 //! operator    = "+" | "-" | "*" | "/" | "%" | "==" | "!=" | "<" | "<=" | ">" | ">=" | "&&" | "||"
 //! operand     = literal | name
 //! literal     = ["-"] digits | "true" | "false" | "nil"
-//! inputs      = line "%" "inputs", at most 4096 lines "input" {literal}, of at most 65536 literals each
+//! label       = name | "_" digits without leading zeros
+//! inputs      = line "%" "inputs", {line "input" {literal}}
 //! ```
 //!
-//! The last instruction of a version is `return` or `stop`, and none before it is. A number fits 64 bits,
-//! with its sign. A name is a word of at most 64 bytes that begins with a letter and isn't reserved. A
-//! version has at most 1024 variables, numbered in the order of their first mention. Each is in scope
-//! where it is used, and not where `var` declares it.
+//! A number fits 64 bits, with its sign. A name is a word of at most 64 bytes that begins with a letter
+//! and isn't reserved. A text has at most 256 functions of at most 255 parameters and 16 versions each; a
+//! version has at most 4,096 instructions and 1,024 variables, which are its parameters and the names that
+//! it mentions. There are at most 4,096 inputs, of at most 65,536 values each.
+//!
+//! Whether the names are known and where variables are in scope isn't looked at here.
 #![tactic(auto)]
 
-mod body;
+mod ahead;
 mod expression;
 mod fault;
+mod function;
 mod heading;
 mod inputs;
 mod instruction;
 mod job;
 mod kind;
-mod lines;
+mod label;
+mod line;
 mod literal;
+mod mentions;
 mod name;
 mod operand;
 mod operator;
-mod scopes;
-mod variable;
+mod raw;
+mod version;
 
 pub use fault::TextFault;
 pub use job::read_job;
+pub use raw::{
+    RawExpr, RawFunction, RawInput, RawInstr, RawJob, RawLine, RawLiteral, RawSimple, RawVersion,
+};

@@ -6,11 +6,11 @@ ghost use Rattle.std.specs.Int.{w64};
 ghost use Rattle.std.specs.List.{AllByRecursion};
 ghost use Rattle.std.specs.Str.Parse.{digits_value};
 ghost use Rattle.sour_tokens.specs.Token.{spelling, IsOfItsKind, IsWord, IsDigits};
-ghost use Rattle.sour_syntax.specs.declared.literal.Literal.{Literal};
+ghost use Rattle.sour_reader.specs.declared.raw.RawLiteral.{RawLiteral};
 ghost use Rattle.sour_reader.specs.Literal.{SpellsLiteral};
 
 use crate::kind::is_symbol;
-use sour_syntax::Literal;
+use crate::raw::RawLiteral;
 use sour_tokens::{Symbol, Token};
 use std::str;
 
@@ -43,53 +43,53 @@ fn negative_of(digits: &[u8]) -> Option<i64>
 }
 
 /// The literal that a word spells.
-fn word_literal(word: &[u8]) -> Option<Literal>
+fn word_literal(word: &[u8]) -> Option<RawLiteral>
     requires { IsWord word.now }
-    ensures { (literal : Literal) → SpellsLiteral literal (word.now ∷ []) ↔ (result ≡ Some literal) }
+    ensures { (literal : RawLiteral) → SpellsLiteral literal (word.now ∷ []) ↔ (result ≡ Some literal) }
 {
     if word == b"true".as_slice() {
-        Some(Literal::Truth(true))
+        Some(RawLiteral::Truth(true))
     } else if word == b"false".as_slice() {
-        Some(Literal::Truth(false))
+        Some(RawLiteral::Truth(false))
     } else if word == b"nil".as_slice() {
-        Some(Literal::Nil)
+        Some(RawLiteral::Nil)
     } else {
         None
     }
 }
 
 /// The literal that one token spells.
-fn token_literal(token: &Token) -> Option<Literal>
+fn token_literal(token: &Token) -> Option<RawLiteral>
     requires { IsOfItsKind token.now }
-    ensures { (literal : Literal) → SpellsLiteral literal (spelling token.now ∷ []) ↔ (result ≡ Some literal) }
+    ensures { (literal : RawLiteral) → SpellsLiteral literal (spelling token.now ∷ []) ↔ (result ≡ Some literal) }
 {
     match token {
         Token::Word(word) => word_literal(word),
-        Token::Digits(digits) => positive_of(digits).map(Literal::Number),
+        Token::Digits(digits) => positive_of(digits).map(RawLiteral::Number),
         Token::Symbol(_) => None,
     }
 }
 
 /// The literal that two tokens spell.
-fn signed_literal(sign: &Token, digits: &Token) -> Option<Literal>
+fn signed_literal(sign: &Token, digits: &Token) -> Option<RawLiteral>
     requires sign { IsOfItsKind sign.now }
     requires digits { IsOfItsKind digits.now }
-    ensures { (literal : Literal) → SpellsLiteral literal (spelling sign.now ∷ spelling digits.now ∷ []) ↔ (result ≡ Some literal) }
+    ensures { (literal : RawLiteral) → SpellsLiteral literal (spelling sign.now ∷ spelling digits.now ∷ []) ↔ (result ≡ Some literal) }
 {
     if !is_symbol(sign, Symbol::Minus) {
         return None;
     }
     match digits {
-        Token::Digits(digits) => negative_of(digits).map(Literal::Number),
+        Token::Digits(digits) => negative_of(digits).map(RawLiteral::Number),
         Token::Word(_) => None,
         Token::Symbol(_) => None,
     }
 }
 
 /// The literal that these tokens spell.
-pub fn literal_of(tokens: &[Token]) -> Option<Literal>
+pub fn literal_of(tokens: &[Token]) -> Option<RawLiteral>
     requires { AllByRecursion IsOfItsKind tokens.now }
-    ensures { (literal : Literal) → SpellsLiteral literal (map spelling tokens.now) ↔ (result ≡ Some literal) }
+    ensures { (literal : RawLiteral) → SpellsLiteral literal (map spelling tokens.now) ↔ (result ≡ Some literal) }
 {
     match tokens {
         [only] => token_literal(only),

@@ -1,17 +1,16 @@
 //! Operands.
 
-ghost use Rattle.std.specs.Prelude.{◌≡◌, map, IfOk};
+ghost use Rattle.std.specs.Prelude.{◌≡◌, ◌↔◌, Some, map, IfOk};
 ghost use Rattle.std.specs.List.{AllByRecursion};
 ghost use Rattle.sour_tokens.specs.Token.{spelling, IsOfItsKind};
-ghost use Rattle.sour_syntax.specs.declared.literal.VarId.{VarId};
-ghost use Rattle.sour_syntax.specs.declared.expression.Simple.TheVariants.{Var};
-ghost use Rattle.sour_reader.specs.Variables.{AreVariables, Finds};
-ghost use Rattle.sour_reader.specs.Reading.{operand_length, ReadsSimple};
+ghost use Rattle.sour_reader.specs.declared.raw.RawSimple.{RawSimple};
+ghost use Rattle.sour_reader.specs.Instruction.{SpellsSimple};
+ghost use Rattle.sour_reader.specs.Operand.{operand_length};
 
 use crate::kind::is_symbol;
+use crate::label::only_name;
 use crate::literal::literal_of;
-use crate::variable::variable_of;
-use sour_syntax::{Names, Simple, VarId};
+use crate::raw::RawSimple;
 use sour_tokens::{Symbol, Token};
 use std::alloc::{AllocError, Global};
 
@@ -30,40 +29,13 @@ pub fn operand_length(tokens: &[Token]) -> usize
     }
 }
 
-/// The variable that these tokens spell.
-fn variable_alone(
-    alloc: Global,
-    tokens: &[Token],
-    names: &mut Names,
-) -> Result<Option<VarId>, AllocError>
-    requires kinds { AllByRecursion IsOfItsKind tokens.now }
-    requires variables { AreVariables names.old }
-    ensures { IfOk result (λ found. Finds (λ (x : VarId) new. ReadsSimple names.old (map spelling tokens.now) (Var x) new) found names.new) }
-{
-    let Some((token, others)) = tokens.split_first() else {
-        return Ok(None);
-    };
-    if !others.is_empty() {
-        return Ok(None);
-    }
-    variable_of(alloc, token, names)
-}
-
 /// The operand that these tokens spell.
-pub fn simple_of(
-    alloc: Global,
-    tokens: &[Token],
-    names: &mut Names,
-) -> Result<Option<Simple>, AllocError>
-    requires kinds { AllByRecursion IsOfItsKind tokens.now }
-    requires variables { AreVariables names.old }
-    ensures { IfOk result (λ found. Finds (ReadsSimple names.old (map spelling tokens.now)) found names.new) }
+pub fn simple_of(alloc: Global, tokens: &[Token]) -> Result<Option<RawSimple>, AllocError>
+    requires { AllByRecursion IsOfItsKind tokens.now }
+    ensures { IfOk result (λ found. (a : RawSimple) → SpellsSimple a (map spelling tokens.now) ↔ (found ≡ Some a)) }
 {
     match literal_of(tokens) {
-        Some(literal) => Ok(Some(Simple::Lit(literal))),
-        None => match variable_alone(alloc, tokens, names)? {
-            Some(x) => Ok(Some(Simple::Var(x))),
-            None => Ok(None),
-        },
+        Some(literal) => Ok(Some(RawSimple::Lit(literal))),
+        None => Ok(only_name(alloc, tokens)?.map(RawSimple::Name)),
     }
 }

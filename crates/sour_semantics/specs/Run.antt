@@ -1,21 +1,11 @@
-use Rattle.std.specs.Prelude.{◌≡◌, ◌<◌, ◌≤◌, ◌⊎◌, ℕ, zero, suc, List, [], ◌∷◌, Option, None, Some, IsSome, length, replicate, slice_get}
+use Rattle.std.specs.Prelude.{◌≡◌, ◌<◌, ◌≤◌, ◌⊎◌, ℕ, zero, suc, List, [], ◌∷◌, None, IsSome, length, replicate}
 use Rattle.sour_syntax.specs.declared.literal.FunId.{FunId}
 use Rattle.sour_syntax.specs.declared.literal.Literal.{Literal}
 use Rattle.sour_syntax.specs.declared.literal.Value.{Value}
-use Rattle.sour_syntax.specs.declared.program.Version.{Version}
 use Rattle.sour_syntax.specs.Labels.{first_label}
 use Rattle.sour_syntax.specs.Program.{ProgramView}
 use Rattle.sour_semantics.specs.State.{Environment, Frame, FrameCode, text, State}
-use Rattle.sour_semantics.specs.Step.{step, text_choice, version_of, lines_of}
-
-abbrev pub variables_of_version : Option Version → List (List ℕ)
-variables_of_version None = []
-variables_of_version (Some version) = version.body.variables
-
--- the variables of the code that a frame runs
-abbrev pub variables_of : ProgramView → FrameCode → List (List ℕ)
-variables_of program (text function version) =
-    variables_of_version (version_of (slice_get program.functions function.0) version)
+use Rattle.sour_semantics.specs.Step.{step, text_choice, body_of, lines_of}
 
 -- no variable has a value
 abbrev pub empty_environment : ℕ → Environment
@@ -26,7 +16,7 @@ abbrev pub first_frame : ProgramView → FunId → Frame
 first_frame program function = record {
   code = text function 0;
   label = first_label (lines_of program (text function 0));
-  environment = empty_environment (length (variables_of program (text function 0)));
+  environment = empty_environment (length ((body_of program (text function 0)).variables));
   waits = None;
 }
 

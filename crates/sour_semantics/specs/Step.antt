@@ -1,15 +1,17 @@
-use Rattle.std.specs.Prelude.{ℕ, ◌+◌, List, [], ◌∷◌, ◌++◌, Option, None, Some, Result, Ok, Err, Bool, length, nat_lt, slice_get, slice_set, if◌then◌else◌}
+use Rattle.std.specs.Prelude.{ℕ, ◌+◌, List, [], ◌∷◌, ◌++◌, Option, None, Some, Result, Ok, Err, Bool, true, false, length, nat_lt, slice_get, slice_set, if◌then◌else◌}
 use Rattle.sour_syntax.specs.declared.instruction.Instr.{Instr}
-use Rattle.sour_syntax.specs.declared.instruction.Instr.TheVariants.{Var, Assign, Print, Read, Return, Stop}
+use Rattle.sour_syntax.specs.declared.instruction.Instr.TheVariants.{Var, Drop, Assign, Print, Read, Branch, Goto, Return, Stop}
 use Rattle.sour_syntax.specs.declared.instruction.Line.{Line}
 use Rattle.sour_syntax.specs.declared.literal.Literal.{Literal}
+use Rattle.sour_syntax.specs.declared.literal.Literal.TheVariants.{Number, Truth, Nil}
 use Rattle.sour_syntax.specs.declared.literal.Value.{Value}
 use Rattle.sour_syntax.specs.declared.literal.Value.TheVariants.{Plain}
 use Rattle.sour_syntax.specs.declared.literal.VarId.{VarId}
 use Rattle.sour_syntax.specs.declared.program.Function.{Function}
 use Rattle.sour_syntax.specs.declared.program.Version.{Version}
 use Rattle.sour_syntax.specs.declared.trap.Trap.{Trap}
-use Rattle.sour_syntax.specs.declared.trap.Trap.TheVariants.{InputEnd, OutputFull}
+use Rattle.sour_syntax.specs.declared.trap.Trap.TheVariants.{BadType, InputEnd, OutputFull}
+use Rattle.sour_syntax.specs.BodyView.{BodyView}
 use Rattle.sour_syntax.specs.Labels.{from_label, first_label}
 use Rattle.sour_syntax.specs.Program.{ProgramView}
 use Rattle.sour_semantics.specs.State.{Frame, FrameCode, text, Ending, stopped, returned, trapped, stuck, State}
@@ -33,14 +35,21 @@ abbrev pub version_of : Option Function → ℕ → Option Version
 version_of None version = None
 version_of (Some function) version = slice_get function.versions version
 
-abbrev pub lines_of_version : Option Version → List Line
-lines_of_version None = []
-lines_of_version (Some version) = version.body.lines
+abbrev pub body_of_version : Option Version → BodyView
+body_of_version None = record { function = record { 0 = 0 }; parameters = 0; variables = []; lines = [] }
+body_of_version (Some version) = version.body
 
--- the lines of the code that a frame runs
+-- the version that a frame runs
+abbrev pub version_of_code : ProgramView → FrameCode → Option Version
+version_of_code program (text function version) = version_of (slice_get program.functions function.0) version
+
+-- the body that a frame runs
+abbrev pub body_of : ProgramView → FrameCode → BodyView
+body_of program code = body_of_version (version_of_code program code)
+
+-- its lines
 abbrev pub lines_of : ProgramView → FrameCode → List Line
-lines_of program (text function version) =
-    lines_of_version (version_of (slice_get program.functions function.0) version)
+lines_of program code = (body_of program code).lines
 
 -- the run ends
 abbrev pub ends : Ending → State → State
@@ -64,6 +73,15 @@ with_variable x value [] = []
 with_variable x value (frame ∷ frames) =
     record frame { environment = slice_set frame.environment x.0 (Some value) } ∷ frames
 
+-- a variable of the top frame has no value
+abbrev pub without_variable : VarId → List Frame → List Frame
+without_variable x [] = []
+without_variable x (frame ∷ frames) =
+    record frame { environment = slice_set frame.environment x.0 None } ∷ frames
+
+abbrev pub clears : VarId → State → State
+clears x s = record s { frames = without_variable x s.frames }
+
 abbrev pub sets : VarId → Value → State → State
 sets x value s = record s { frames = with_variable x value s.frames }
 
@@ -76,6 +94,13 @@ reads x (literal ∷ rest) next s = goes_to next (sets x (Plain literal) (record
 abbrev pub given : Result Value Trap → (Value → State) → State → State
 given (Ok value) onward s = onward value
 given (Err trap) onward s = ends (trapped trap) s
+
+-- the run goes to the one label or the other as the value says, if it is a truth value
+abbrev pub branches : Value → List ℕ → List ℕ → State → State
+branches (Plain (Truth true)) first second s = goes_to first s
+branches (Plain (Truth false)) first second s = goes_to second s
+branches (Plain (Number number)) first second s = ends (trapped BadType) s
+branches (Plain Nil) first second s = ends (trapped BadType) s
 
 -- the most bytes that a run may write
 abbrev pub output_limit : ℕ
@@ -104,11 +129,15 @@ returns value (frame ∷ below ∷ frames) s = resumes value below frames below.
 abbrev pub act : ProgramView → Choice → Frame → Instr → List ℕ → State → State
 act program choice frame (Var x e) next s =
     given (eval frame.environment s.heap e) (λ value. goes_to next (sets x value s)) s
+act program choice frame (Drop x) next s = goes_to next (clears x s)
 act program choice frame (Assign x e) next s =
     given (eval frame.environment s.heap e) (λ value. goes_to next (sets x value s)) s
 act program choice frame (Read x) next s = reads x s.rest next s
 act program choice frame (Print e) next s =
     given (eval frame.environment s.heap e) (λ value. prints (value_text program s.heap value ++ 10 ∷ []) next s) s
+act program choice frame (Branch e first second) next s =
+    given (eval frame.environment s.heap e) (λ value. branches value first second (takes_turn s)) (takes_turn s)
+act program choice frame (Goto label) next s = goes_to label (takes_turn s)
 act program choice frame (Return e) next s =
     given (eval frame.environment s.heap e) (λ value. returns value s.frames (takes_turn s)) (takes_turn s)
 act program choice frame Stop next s = ends stopped s

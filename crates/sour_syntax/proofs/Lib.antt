@@ -1,3 +1,10 @@
 pub mod NameLemmas
 pub mod LabelPlaces
-pub mod StraightScopes
+pub mod Everywhere
+pub mod Following
+pub mod LabelSets
+pub mod JumpPlaces
+pub mod GivesLaws
+pub mod SpreadLaws
+pub mod LastLine
+pub mod ScopeLists

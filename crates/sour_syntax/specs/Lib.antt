@@ -3,6 +3,8 @@ pub mod Names
 pub mod BodyView
 pub mod Labels
 pub mod Terminator
+pub mod Jumps
 pub mod Scopes
 pub mod Body
 pub mod Program
+pub mod Spread

@@ -1,5 +1,5 @@
 -- Which variables are in scope where.
-use Rattle.std.specs.Prelude.{◌≡◌, ◌+◌, ◌-◌, ◌<◌, ℕ, zero, suc, Bool, true, false, List, [], ◌∷◌, ◌++◌, Some, length, Contains, replicate, slice_get, slice_set}
+use Rattle.std.specs.Prelude.{◌≡◌, ◌-◌, ◌<◌, ℕ, zero, suc, Bool, true, false, List, [], ◌∷◌, ◌++◌, Some, length, Contains, replicate, slice_get, slice_set}
 use Rattle.std.specs.List.{AllByRecursion}
 use Rattle.sour_syntax.specs.declared.literal.VarId.{VarId}
 use Rattle.sour_syntax.specs.declared.expression.Simple.{Simple}
@@ -7,10 +7,10 @@ use Rattle.sour_syntax.specs.declared.expression.Simple.TheVariants as simple
 use Rattle.sour_syntax.specs.declared.expression.Expr.{Expr}
 use Rattle.sour_syntax.specs.declared.expression.Expr.TheVariants as expr
 use Rattle.sour_syntax.specs.declared.instruction.Instr.{Instr}
-use Rattle.sour_syntax.specs.declared.instruction.Instr.TheVariants.{Var, Assign, Print, Read, Return, Stop}
+use Rattle.sour_syntax.specs.declared.instruction.Instr.TheVariants.{Var, Drop, Assign, Print, Read, Branch, Goto, Return, Stop}
 use Rattle.sour_syntax.specs.declared.instruction.Line.{Line}
 use Rattle.sour_syntax.specs.BodyView.{BodyView}
-use Rattle.sour_syntax.specs.Labels.{from_label, first_label}
+use Rattle.sour_syntax.specs.Labels.{from_label, first_label, label_at}
 
 -- for each variable of a body, by its number, whether it is in scope
 abbrev pub Scope : Type 0
@@ -30,45 +30,60 @@ variables_of_expr (expr.Binary op a b) = simple_variables a ++ simple_variables 
 -- the variables that must be in scope before an instruction
 abbrev pub needed : Instr → List VarId
 needed (Var x e) = variables_of_expr e
+needed (Drop x) = x ∷ []
 needed (Assign x e) = x ∷ variables_of_expr e
 needed (Print e) = variables_of_expr e
 needed (Read x) = []
+needed (Branch e a b) = variables_of_expr e
+needed (Goto a) = []
 needed (Return e) = variables_of_expr e
 needed Stop = []
 
 -- the variables that an instruction declares, which must not be in scope before it
 abbrev pub declared_by : Instr → List VarId
 declared_by (Var x e) = x ∷ []
+declared_by (Drop x) = []
 declared_by (Assign x e) = []
 declared_by (Print e) = []
 declared_by (Read x) = []
+declared_by (Branch e a b) = []
+declared_by (Goto a) = []
 declared_by (Return e) = []
 declared_by Stop = []
 
 -- the variables that an instruction mentions, in the order in which they are written
 abbrev pub mentioned : Instr → List VarId
 mentioned (Var x e) = x ∷ variables_of_expr e
+mentioned (Drop x) = x ∷ []
 mentioned (Assign x e) = x ∷ variables_of_expr e
 mentioned (Print e) = variables_of_expr e
 mentioned (Read x) = x ∷ []
+mentioned (Branch e a b) = variables_of_expr e
+mentioned (Goto a) = []
 mentioned (Return e) = variables_of_expr e
 mentioned Stop = []
 
 -- the scope behind an instruction
 abbrev pub scope_after : Instr → Scope → Scope
 scope_after (Var x e) scope = slice_set scope x.0 true
+scope_after (Drop x) scope = slice_set scope x.0 false
 scope_after (Assign x e) scope = scope
 scope_after (Print e) scope = scope
 scope_after (Read x) scope = slice_set scope x.0 true
+scope_after (Branch e a b) scope = scope
+scope_after (Goto a) scope = scope
 scope_after (Return e) scope = scope
 scope_after Stop scope = scope
 
 -- the labels that may follow an instruction, where this one is that of the next line
 abbrev pub followers : Instr → List ℕ → List (List ℕ)
 followers (Var x e) next = next ∷ []
+followers (Drop x) next = next ∷ []
 followers (Assign x e) next = next ∷ []
 followers (Print e) next = next ∷ []
 followers (Read x) next = next ∷ []
+followers (Branch e a b) next = a ∷ b ∷ []
+followers (Goto a) next = a ∷ []
 followers (Return e) next = []
 followers Stop next = []
 
@@ -106,6 +121,23 @@ pub record HasScopes (body : BodyView) : Type 0 where
       → HasScope body m label scope → HasScope body n label other → scope ≡ other
   pub fine : (count : ℕ) (label : List ℕ) (scope : Scope) (line : Line) (rest : List Line)
       → HasScope body count label scope → IsLineAt body label line rest → IsFine line.instr scope
+
+-- the variables in a scope by their numbers, in ascending order, where the first of the scope has this number
+abbrev pub members : ℕ → Scope → List VarId
+members x [] = []
+members x (true ∷ scope) = record { 0 = x } ∷ members (suc x) scope
+members x (false ∷ scope) = members (suc x) scope
+
+-- some path leads to the line at this place, and these are the variables in scope there
+pub record HasInScope (body : BodyView) (place : ℕ) (variables : List VarId) : Type 0 where
+  pub count : ℕ
+  pub scope : Scope
+  pub path : HasScope body count (label_at body.lines place) scope
+  pub are : variables ≡ members 0 scope
+
+-- no path leads to the line at this place
+abbrev pub IsUnreached : BodyView → ℕ → Type 0
+IsUnreached body place = (count : ℕ) (scope : Scope) → HasScope body count (label_at body.lines place) scope → ⊥
 
 -- each variable that a line mentions is one of the body's
 abbrev pub MentionsItsVariables : BodyView → Type 0

@@ -1,19 +1,22 @@
 -- How a version ends.
 use Rattle.std.specs.Prelude.{List, [], ◌∷◌}
 use Rattle.sour_syntax.specs.declared.instruction.Instr.{Instr}
-use Rattle.sour_syntax.specs.declared.instruction.Instr.TheVariants.{Var, Assign, Print, Read, Return, Stop}
+use Rattle.sour_syntax.specs.declared.instruction.Instr.TheVariants.{Var, Drop, Assign, Print, Read, Branch, Goto, Return, Stop}
 use Rattle.sour_syntax.specs.declared.instruction.Line.{Line}
 
--- nothing follows it in its version
+-- the line behind it doesn't follow it
 abbrev pub IsTerminator : Instr → Type 0
 IsTerminator (Var x e) = ⊥
+IsTerminator (Drop x) = ⊥
 IsTerminator (Assign x e) = ⊥
 IsTerminator (Print e) = ⊥
 IsTerminator (Read x) = ⊥
+IsTerminator (Branch e a b) = Unit {0}
+IsTerminator (Goto a) = Unit {0}
 IsTerminator (Return e) = Unit {0}
 IsTerminator Stop = Unit {0}
 
--- there is a last line, and nothing would follow it
+-- there is a last line, and no path goes on behind it
 abbrev pub EndsInTerminator : List Line → Type 0
 EndsInTerminator [] = ⊥
 EndsInTerminator (line ∷ []) = IsTerminator line.instr

@@ -1,68 +1,107 @@
-ghost use Rattle.std.specs.Prelude.{◌≡◌, ◌≤◌, length};
-ghost use Rattle.sour_syntax.specs.Labels.{LabelsDiffer};
+ghost use Rattle.std.specs.Prelude.{◌≡◌, ◌≤◌, ◌<◌, ◌↔◌, ℕ, Some, length, IfOk, IfSome, IfNone};
+ghost use Rattle.sour_syntax.specs.Labels.{LabelsDiffer, IsPlaceOf};
 ghost use Rattle.sour_syntax.specs.Terminator.{EndsInTerminator};
-ghost use Rattle.sour_syntax.specs.Scopes.{HasScopes, MentionsItsVariables};
+ghost use Rattle.sour_syntax.specs.Jumps.{NamesItsLabels, GoTo};
+ghost use Rattle.sour_syntax.specs.Scopes.{HasScopes, HasInScope, IsUnreached, MentionsItsVariables};
+ghost use Rattle.sour_syntax.specs.Body.{IsBody};
 
 use crate::instruction::Line;
+use crate::jump::Jump;
+use crate::jump_places::jumps_of;
+use crate::label::Label;
+use crate::label_places::LabelPlaces;
 use crate::list::List;
-use crate::literal::FunId;
+use crate::literal::{FunId, VarId};
 use crate::names::Names;
+use crate::parts::Parts;
+use crate::scope_lists::lists_of;
+use crate::scope_table::scopes_of;
+use std::alloc::{AllocError, Global};
 use std::marker::Model;
 
 /// The instructions of one version. Its labels differ, no path through it falls off its end, and each
 /// label has one scope, in which the instruction there may stand.
 #[derive(Drop)]
 pub struct Body {
-    function: FunId,
-    parameters: u32,
-    variables: Names,
-    lines: List<Line>,
+    parts: Parts,
+    labels: LabelPlaces,
+    /// For each place, where its instruction goes by name.
+    jumps: List<Jump>,
+    /// For each place the variables in scope there, or nothing where no path leads there.
+    scopes: List<Option<List<VarId>>>,
 }
 
 impl Model for Body {
     ghost use Rattle.sour_syntax.specs.BodyView.{BodyView};
-    ghost use Rattle.sour_syntax.specs.Body.{IsBody};
+    ghost use Rattle.sour_syntax.specs.Body.{IsBody, Keeps};
 
     ghost Value = { BodyView };
 
-    ghost view = { λ body. record {
-      function = body.function;
-      parameters = body.parameters;
-      variables = body.variables;
-      lines = body.lines;
-    } };
+    ghost view = { λ body. body.parts };
 
-    ghost invariant = { λ body. IsBody (record {
-      function = body.function;
-      parameters = body.parameters;
-      variables = body.variables;
-      lines = body.lines;
-    }) };
+    ghost invariant = { λ body. IsBody body.parts × Keeps body.parts body.labels body.jumps body.scopes };
 }
 
 impl Body {
     /// The body of a version of `function`. The first `parameters` of its variables are its parameters.
-    pub fn new(function: FunId, parameters: u32, variables: Names, lines: List<Line>) -> Body
-        requires parameters { parameters ≤ length variables }
-        requires labels { LabelsDiffer lines }
-        requires end { EndsInTerminator lines }
-        requires mentions { MentionsItsVariables (record { function = function; parameters = parameters; variables = variables; lines = lines }) }
-        requires scopes { HasScopes (record { function = function; parameters = parameters; variables = variables; lines = lines }) }
-        ensures { result ≡ record { function = function; parameters = parameters; variables = variables; lines = lines } }
+    /// It works out the scope of each place.
+    pub fn new(
+        alloc: Global,
+        function: FunId,
+        parameters: u32,
+        variables: Names,
+        lines: List<Line>,
+    ) -> Result<Body, AllocError>
+        requires { IsBody (record { function = function; parameters = parameters; variables = variables; lines = lines }) }
+        ensures { IfOk result (λ body. body ≡ record { function = function; parameters = parameters; variables = variables; lines = lines }) }
     {
-        Body {
+        let body = Body::checked(alloc, function, parameters, variables, lines)?;
+        Ok(body.unwrap())
+    }
+
+    /// The body of these parts, where they are those of a body; `None` exactly where they aren't.
+    pub fn checked(
+        alloc: Global,
+        function: FunId,
+        parameters: u32,
+        variables: Names,
+        lines: List<Line>,
+    ) -> Result<Option<Body>, AllocError>
+        ensures some { IfOk result (λ found. IfSome found (λ body. body ≡ record { function = function; parameters = parameters; variables = variables; lines = lines })) }
+        ensures none { IfOk result (λ found. IfNone found (IsBody (record { function = function; parameters = parameters; variables = variables; lines = lines }) → ⊥)) }
+    {
+        let parts = Parts {
             function,
             parameters,
             variables,
             lines,
+        };
+        if !parts.is_plain() {
+            return Ok(None);
         }
+        let Some(labels) = LabelPlaces::of_lines(alloc, parts.lines())? else {
+            return Ok(None);
+        };
+        let Some(jumps) = jumps_of(alloc, parts.lines(), &labels)? else {
+            return Ok(None);
+        };
+        let Some(table) = scopes_of(alloc, &parts, jumps.as_slice())? else {
+            return Ok(None);
+        };
+        let scopes = lists_of(alloc, table.rows.as_slice())?;
+        Ok(Some(Body {
+            parts,
+            labels,
+            jumps,
+            scopes,
+        }))
     }
 
     /// The function of which this is a version.
     pub fn function(&self) -> FunId
         ensures { result ≡ self.now.function }
     {
-        self.function
+        self.parts.function
     }
 
     /// How many parameters it has.
@@ -70,14 +109,14 @@ impl Body {
         ensures value { result ≡ self.now.parameters }
         ensures within { result ≤ length self.now.variables }
     {
-        self.parameters
+        self.parts.parameters
     }
 
     /// Its variables, the parameters first.
     pub fn variables(&self) -> &Names
         ensures { result.now ≡ self.now.variables }
     {
-        &self.variables
+        &self.parts.variables
     }
 
     /// Its instructions, in order.
@@ -85,9 +124,38 @@ impl Body {
         ensures value { result.now ≡ self.now.lines }
         ensures labels { LabelsDiffer result.now }
         ensures end { EndsInTerminator result.now }
+        ensures names { NamesItsLabels result.now }
         ensures mentions { MentionsItsVariables self.now }
         ensures scopes { HasScopes self.now }
     {
-        self.lines.as_slice()
+        self.parts.lines()
+    }
+
+    /// Where each instruction goes by name, in the order of the lines.
+    pub fn jumps(&self) -> &[Jump]
+        ensures { GoTo self.now.lines self.now.lines result.now }
+    {
+        self.jumps.as_slice()
+    }
+
+    /// The place of the line with this label, counted from 0; none exactly where no line has it. It
+    /// scans nothing.
+    pub fn place(&self, label: &Label) -> Option<usize>
+        ensures { (place : ℕ) → IsPlaceOf self.now.lines label.now place ↔ (result ≡ Some place) }
+    {
+        self.labels.place(label.as_bytes())
+    }
+
+    /// The variables in scope at a place, by their numbers in ascending order; none exactly where no path
+    /// from the first line leads there.
+    pub fn scope(&self, place: usize) -> Option<&[VarId]>
+        requires { place < length self.now.lines }
+        ensures reached { IfSome result (λ variables. HasInScope self.now place variables.now) }
+        ensures unreached { IfNone result (IsUnreached self.now place) }
+    {
+        match &self.scopes.as_slice()[place] {
+            Some(variables) => Some(variables.as_slice()),
+            None => None,
+        }
     }
 }

@@ -7,12 +7,18 @@ use crate::literal::VarId;
 pub enum Instr {
     /// Declares a variable, which isn't in scope, with the value of an expression.
     Var(VarId, Expr),
+    /// Takes a variable, which is in scope, out of it.
+    Drop(VarId),
     /// Gives a variable, which is in scope, the value of an expression.
     Assign(VarId, Expr),
     /// Appends the text of a value and a line feed to the output.
     Print(Expr),
     /// Takes the next value of the input: gives it to the variable, or declares the variable with it.
     Read(VarId),
+    /// Goes to the first label where the expression is `true`, and to the second where it is `false`.
+    Branch(Expr, Label, Label),
+    /// Goes to the line with this label.
+    Goto(Label),
     /// Ends the frame with a value; in the last frame it ends the run.
     Return(Expr),
     /// Ends the run.

@@ -7,23 +7,30 @@ mod body;
 mod expression;
 mod instruction;
 mod job;
+mod jump;
+mod jump_places;
 mod label;
+mod label_places;
 mod list;
 mod literal;
+mod mentions;
 mod names;
+mod parts;
 mod program;
+mod scope_lists;
+mod scope_table;
+mod scopes;
+mod terminator;
 mod trap;
 
 pub use body::Body;
 pub use expression::{Expr, Op, Simple};
 pub use instruction::{Instr, Line};
 pub use job::Job;
+pub use jump::Jump;
 pub use label::Label;
 pub use list::List;
 pub use literal::{FunId, Literal, Value, VarId};
 pub use names::Names;
 pub use program::{Function, Program, Version};
 pub use trap::Trap;
-
-#[cfg(test)]
-mod tests;

@@ -1,4 +1,4 @@
-ghost use Rattle.std.specs.Prelude.{◌≡◌, ◌^◌, ◌<◌, [], ◌∷◌, ◌++◌, Some, None, length, slice_get, Contains, IfOk, OnErr, IfSome, IfNone};
+ghost use Rattle.std.specs.Prelude.{◌≡◌, ◌^◌, ◌<◌, ◌≤◌, [], ◌∷◌, ◌++◌, Some, None, length, slice_get, Contains, IfOk, OnErr, IfSome, IfNone};
 ghost use Rattle.sour_syntax.specs.Names.{Numbers};
 
 use crate::literal::VarId;
@@ -14,7 +14,7 @@ pub struct Names {
 }
 
 impl Model for Names {
-    ghost use Rattle.std.specs.Prelude.{List, ℕ, map};
+    ghost use Rattle.std.specs.Prelude.{◌≤◌, ◌^◌, List, ℕ, length, map};
     ghost use Rattle.std.specs.Coded.{coded_list, coded_ℕ};
 
     ghost Value = { List (List ℕ) };
@@ -22,6 +22,8 @@ impl Model for Names {
     ghost coded = { coded_list (coded_list coded_ℕ) };
 
     ghost view = { λ names. map (λ name. name.items) names.names.keys };
+
+    ghost invariant = { λ names. length names.names.keys ≤ 2 ^ 32 };
 }
 
 impl Names {
@@ -34,9 +36,10 @@ impl Names {
         }
     }
 
-    /// How many names there are.
+    /// How many names there are. Each has a number, so there are no more of them than numbers.
     pub fn len(&self) -> usize
-        ensures { result ≡ length self.now }
+        ensures value { result ≡ length self.now }
+        ensures few { result ≤ 2 ^ 32 }
     {
         self.names.len()
     }

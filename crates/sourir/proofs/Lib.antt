@@ -1,3 +1,4 @@
 pub mod BlockLemmas
 pub mod TextLemmas
 pub mod ShowLemmas
+pub mod WordLemmas

@@ -1,12 +1,16 @@
 -- What the program answers, and when.
 use Rattle.std.specs.Prelude.{◌≡◌, ◌<◌, ◌≤◌, ◌⊎◌, ℕ, List, [], ◌∷◌, IfSome, length, codes}
+use Rattle.std.specs.Str.Parse.{digits_value}
 use Rattle.std.specs.Io.KnownBytes.{Appends}
 use Rattle.sour_ports.specs.Cause.{HasCause}
 use Rattle.sour_ports.specs.Told.{AppendsFront}
 use Rattle.sour_syntax.specs.declared.literal.Literal.{Literal}
 use Rattle.sour_syntax.specs.Program.{ProgramView}
 use Rattle.sour_semantics.specs.Block.{BlockEnd, RunShowsAll}
+use Rattle.sour_reader.specs.declared.raw.RawJob.{RawJob}
 use Rattle.sour_reader.specs.Job.{Reads}
+use Rattle.sour_scope.specs.Checked.{IsChecked}
+use Rattle.sour_tokens.specs.Token.{IsDigits}
 use Rattle.sourir.specs.Ports.{SourceMoves, SinkMoves}
 use Rattle.sourir.specs.Status.{status_of_blocks}
 
@@ -16,6 +20,7 @@ pub data Answer : Type 0 where
   source_failed : Answer
   text_too_long : Answer
   text_unplaced : Answer
+  scope_unplaced : Answer
   -- memory was wanting before the first block
   memory_wanting : Answer
   -- the blocks of all inputs, and how each of them ends
@@ -27,6 +32,7 @@ text_of unknown_words = codes "fault words\n"
 text_of source_failed = codes "fault read\n"
 text_of text_too_long = codes "fault text 5 line 0 column 0\n"
 text_of text_unplaced = codes "fault text 3 line 0 column 0\n"
+text_of scope_unplaced = codes "fault scope 0 line 0\n"
 text_of memory_wanting = codes "fault memory\n"
 text_of (blocks ends bytes) = bytes
 
@@ -36,6 +42,7 @@ status_of unknown_words = 2
 status_of source_failed = 4
 status_of text_too_long = 3
 status_of text_unplaced = 3
+status_of scope_unplaced = 3
 status_of memory_wanting = 6
 status_of (blocks ends bytes) = status_of_blocks ends
 
@@ -43,15 +50,26 @@ status_of (blocks ends bytes) = status_of_blocks ends
 abbrev pub text_limit : ℕ
 text_limit = 1048576
 
--- the text reads as no job
+-- the text doesn't read as a job
 abbrev pub ReadsAsNone : List ℕ → Type 0
-ReadsAsNone bytes = (program : ProgramView) (inputs : List (List Literal)) → Reads bytes program inputs → ⊥
+ReadsAsNone bytes = (raw : RawJob) → Reads bytes raw → ⊥
 
--- the text reads as a job, and these are blocks of its inputs
-pub record ReadsAndShows (bytes : List ℕ) (budget : ℕ) (ends : List BlockEnd) (written : List ℕ) : Type 0 where
+-- the text reads as a job, whose names or scopes are wrong
+abbrev pub ReadsAsRefused : List ℕ → Type 0
+ReadsAsRefused bytes =
+    (raw : RawJob) × Reads bytes raw × ((program : ProgramView) (inputs : List (List Literal)) → IsChecked raw program inputs → ⊥)
+
+-- the text is accepted as this program and these inputs
+pub record Accepts (bytes : List ℕ) (program : ProgramView) (inputs : List (List Literal)) : Type 0 where
+  pub raw : RawJob
+  pub reads : Reads bytes raw
+  pub checked : IsChecked raw program inputs
+
+-- the text is accepted, and these are blocks of its inputs
+pub record AcceptsAndShows (bytes : List ℕ) (budget : ℕ) (ends : List BlockEnd) (written : List ℕ) : Type 0 where
   pub program : ProgramView
   pub inputs : List (List Literal)
-  pub reads : Reads bytes program inputs
+  pub accepts : Accepts bytes program inputs
   pub shows : RunShowsAll program inputs 1 budget ends written
 
 -- when `run` with this budget gives an answer
@@ -61,23 +79,45 @@ IsDueByRun budget source source_failed = HasCause source.faults_before source.fa
 IsDueByRun budget source text_too_long = IfSome source.left (λ bytes. text_limit < length bytes)
 IsDueByRun budget source text_unplaced =
     IfSome source.left (λ bytes. (length bytes ≤ text_limit) × ReadsAsNone bytes)
+IsDueByRun budget source scope_unplaced =
+    IfSome source.left (λ bytes. (length bytes ≤ text_limit) × ReadsAsRefused bytes)
 IsDueByRun budget source memory_wanting = Unit {0}
 IsDueByRun budget source (blocks ends written) =
-    IfSome source.left (λ bytes. (length bytes ≤ text_limit) × ReadsAndShows bytes budget ends written)
-
--- the words ask for `run`
-abbrev pub AskForRun : List (List ℕ) → Type 0
-AskForRun words = words ≡ codes "run" ∷ []
+    IfSome source.left (λ bytes. (length bytes ≤ text_limit) × AcceptsAndShows bytes budget ends written)
 
 -- the turns that a run may take where no word says another number
 abbrev pub default_budget : ℕ
 default_budget = 1000000
 
+-- one to eight digits that write this number
+pub record WritesNumber (number : ℕ) (word : List ℕ) : Type 0 where
+  pub digits : IsDigits word
+  pub short : length word ≤ 8
+  pub value : number ≡ digits_value 10 word
+
+-- a budget that a run may be given
+pub record IsBudget (budget : ℕ) : Type 0 where
+  pub least : 1 ≤ budget
+  pub most : budget ≤ 10000000
+
+-- the words are `run` alone
+abbrev pub AskByDefault : List (List ℕ) → ℕ → Type 0
+AskByDefault words budget = (words ≡ codes "run" ∷ []) × (budget ≡ default_budget)
+
+-- the words are `run`, `--budget` and a number
+abbrev pub AskByNumber : List (List ℕ) → ℕ → Type 0
+AskByNumber words budget =
+    (word : List ℕ) × (words ≡ codes "run" ∷ codes "--budget" ∷ word ∷ []) × WritesNumber budget word × IsBudget budget
+
+-- the words ask for `run` with this budget
+abbrev pub AskForRun : List (List ℕ) → ℕ → Type 0
+AskForRun words budget = AskByDefault words budget ⊎ AskByNumber words budget
+
 -- when the program gives an answer
 abbrev pub IsDue : List (List ℕ) → SourceMoves → Answer → Type 0
 IsDue words source answer =
-    (AskForRun words × IsDueByRun default_budget source answer)
-    ⊎ ((AskForRun words → ⊥) × (answer ≡ unknown_words))
+    ((budget : ℕ) × AskForRun words budget × IsDueByRun budget source answer)
+    ⊎ (((budget : ℕ) → AskForRun words budget → ⊥) × (answer ≡ unknown_words))
 
 -- all of the answer was written, and the status is its own; or the sink failed, and the status is 5
 abbrev pub IsGiven : Answer → SinkMoves → ℕ → Type 0

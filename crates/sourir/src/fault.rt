@@ -16,8 +16,10 @@ pub enum Fault {
     Read,
     /// The text has more bytes than a text may have.
     TextTooLong,
-    /// The text is no job.
+    /// The text doesn't read as a job.
     TextUnplaced,
+    /// The names or the scopes of the text are wrong.
+    ScopeUnplaced,
     /// Memory was wanting before the first block.
     Memory,
 }
@@ -32,6 +34,7 @@ impl Fault {
             Fault::Read => b"fault read\n",
             Fault::TextTooLong => b"fault text 5 line 0 column 0\n",
             Fault::TextUnplaced => b"fault text 3 line 0 column 0\n",
+            Fault::ScopeUnplaced => b"fault scope 0 line 0\n",
             Fault::Memory => b"fault memory\n",
         }
     }
@@ -42,7 +45,7 @@ impl Fault {
     {
         match self {
             Fault::Words => 2,
-            Fault::TextTooLong | Fault::TextUnplaced => 3,
+            Fault::TextTooLong | Fault::TextUnplaced | Fault::ScopeUnplaced => 3,
             Fault::Read => 4,
             Fault::Memory => 6,
         }

@@ -1,11 +1,13 @@
 //! `sourir`: reads a text of functions and inputs from standard input, runs each input, and writes one
 //! block of output for each to standard output.
 //!
-//! The words on the command line say what is wanted; `run` is the one command that there is. The exit
-//! status says how it went: `program::sourir` gives it, and its contract says what each means.
+//! The words on the command line say what is wanted; `run`, with or without `--budget N`, is the one
+//! command that there is. The exit status says how it went: `program::sourir` gives it, and its contract
+//! says what each means.
 #![tactic(auto)]
 
 mod blocks;
+mod budget;
 mod fault;
 mod program;
 mod run;

@@ -1,24 +1,12 @@
-ghost use Rattle.std.specs.Prelude.{map, IsTrue, ◌↔◌};
+ghost use Rattle.std.specs.Prelude.{map};
 ghost use Rattle.std.specs.String.{string_bytes};
-ghost use Rattle.sourir.specs.Answer.{AskForRun, Serves};
+ghost use Rattle.sourir.specs.Answer.{Serves};
 
+use crate::budget::budget_of;
 use crate::fault::{Fault, write_fault};
 use crate::run::command_run;
 use sour_ports::{Sink, Source};
 use std::alloc::Global;
-
-/// The turns that each run may take.
-const DEFAULT_BUDGET: u64 = 1_000_000;
-
-/// Whether the words ask for `run`.
-fn ask_for_run(words: &[String]) -> bool
-    ensures { IsTrue result ↔ AskForRun (map string_bytes words.now) }
-{
-    match words {
-        [word] => word.as_str() == "run",
-        _ => false,
-    }
-}
 
 /// Does what the words ask for, and gives the exit status. `words` are without the program's name.
 ///
@@ -27,7 +15,7 @@ fn ask_for_run(words: &[String]) -> bool
 /// | 0 | each block ends in `end` or `stopped`, or there are none |
 /// | 1 | a block ends in `trap`, and none in `cut` or `memory` |
 /// | 2 | the words ask for nothing that there is: `fault words` |
-/// | 3 | the text is too long or no job: `fault text ..` |
+/// | 3 | the text is too long or no job: `fault text ..`, or its names or scopes are wrong: `fault scope ..` |
 /// | 4 | the source failed: `fault read` |
 /// | 5 | the sink failed, after some of what was due |
 /// | 6 | memory was wanting: `fault memory`, or all blocks, one or more of which end in `memory` |
@@ -49,9 +37,8 @@ pub fn sourir<S: Source, K: Sink>(
       faults_after = K.faults sink.new;
     }) result }
 {
-    if ask_for_run(words) {
-        command_run(alloc, source, sink, DEFAULT_BUDGET)
-    } else {
-        write_fault(sink, Fault::Words)
+    match budget_of(words) {
+        Some(budget) => command_run(alloc, source, sink, budget),
+        None => write_fault(sink, Fault::Words),
     }
 }

@@ -1,22 +1,22 @@
 ghost use Rattle.std.specs.Prelude.{◌≤◌, ℕ, length, IfSome, IfOk, IfErr};
-ghost use Rattle.sour_reader.specs.Job.{Reads};
-ghost use Rattle.sourir.specs.Answer.{text_limit, IsDueByRun, ServesRun};
+ghost use Rattle.sourir.specs.Answer.{text_limit, Accepts, IsDueByRun, ServesRun};
 ghost use Rattle.sourir.specs.Fault.{answer_of};
 
 use crate::fault::{Fault, write_fault};
 use crate::serving::write_blocks;
 use sour_ports::{ReadStop, Sink, Source, read_all};
 use sour_reader::{TextFault, read_job};
+use sour_scope::{ScopeFault, check};
 use sour_syntax::Job;
 use std::alloc::Global;
 
 /// The most bytes of a text.
 const TEXT_LIMIT: usize = 1_048_576;
 
-/// Reads the source to its end, and the job in its text.
+/// Reads the source to its end, and gives the job that its text means.
 fn accept<S: Source>(alloc: Global, source: &mut S) -> Result<Job, Fault>
     ensures job { IfOk result (λ job. IfSome (S.left source.old) (λ bytes.
-        (length bytes ≤ text_limit) × Reads bytes job.program.value job.inputs)) }
+        (length bytes ≤ text_limit) × Accepts bytes job.program.value job.inputs)) }
     ensures fault { IfErr result (λ fault. (budget : ℕ) → IsDueByRun budget (record {
       left = S.left source.old;
       faults_before = S.faults source.old;
@@ -29,10 +29,15 @@ fn accept<S: Source>(alloc: Global, source: &mut S) -> Result<Job, Fault>
         Err(ReadStop::TooLong) => return Err(Fault::TextTooLong),
         Err(ReadStop::Memory) => return Err(Fault::Memory),
     };
-    match read_job(alloc, bytes.as_slice()) {
+    let raw = match read_job(alloc, bytes.as_slice()) {
+        Ok(raw) => raw,
+        Err(TextFault::Unplaced) => return Err(Fault::TextUnplaced),
+        Err(TextFault::Memory) => return Err(Fault::Memory),
+    };
+    match check(alloc, raw) {
         Ok(job) => Ok(job),
-        Err(TextFault::Unplaced) => Err(Fault::TextUnplaced),
-        Err(TextFault::Memory) => Err(Fault::Memory),
+        Err(ScopeFault::Unplaced) => Err(Fault::ScopeUnplaced),
+        Err(ScopeFault::Memory) => Err(Fault::Memory),
     }
 }
 

@@ -1,4 +1,4 @@
-use Rattle.std.proofs.Common.{refl}
+use Rattle.std.proofs.Common.{◌+◌, [], ◌∷◌, Some, refl, arith}
 use Rattle.sour_syntax.specs.declared.instruction.Instr.TheVariants.{Read}
 use Rattle.sour_syntax.specs.declared.literal.Value.TheVariants.{Plain}
 use Rattle.sour_machine.proofs.Scopes.{scope_of-set, row-set, ComesTo-going}
@@ -7,10 +7,9 @@ use Rattle.sour_machine.proofs.act.read.Goals as goal
 pub returns-in-Some-clause-comes : goal.returns-in-Some-clause-comes
 returns-in-Some-clause-comes c =
     let old = c.args.moment.now in
-    let value = Plain c.in-Some.literal.now in
-    ComesTo-going (Read c.args.x) old _ old.end c.requires.going (record {
-      place = refl;
-      follows = λ end. end;
+    let value = Some (Plain c.in-Some.literal.now) in
+    ComesTo-going (Read c.args.x) ((old.place + 1) ∷ []) old.env _ old.end c.requires.going (record {
+      place = (0, omega arith, refl);
       scope = scope_of-set old.env c.set.new.self c.args.x.0 value c.set.ensures;
       row = row-set old.env c.set.new.self c.args.x.0 value c.set.ensures;
     })

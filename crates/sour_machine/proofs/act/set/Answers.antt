@@ -1,15 +1,15 @@
-use Rattle.std.proofs.Common.{◌+◌, [], refl, sym, ap, ◌∙◌}
+use Rattle.std.proofs.Common.{◌+◌, [], Some, refl, sym, ap, ◌∙◌, ◌∷◌, arith}
 use Rattle.sour_syntax.specs.declared.instruction.Instr.TheVariants.{Var, Assign}
 use Rattle.sour_semantics.specs.State.{Environment}
 use Rattle.sour_semantics.specs.Step.{text_choice}
 use Rattle.sour_machine.specs.Moment.{main_frame, main_label, state_at}
-use Rattle.sour_machine.specs.Scope.{scope_of}
+use Rattle.sour_semantics.specs.Validity.{scope_of}
 use Rattle.sour_machine.proofs.Instructions.{act-set, act-set-trap}
 use Rattle.sour_machine.proofs.Scopes.{set-same, scope_of-set, row-set, ComesTo-going}
 use Rattle.sour_machine.proofs.act.set.Goals as goal
 
 pub returns-in-Ok-clause-acts : goal.returns-in-Ok-clause-acts
-returns-in-Ok-clause-acts c = λ input program.
+returns-in-Ok-clause-acts c = λ program input.
     let old = c.args.moment.now in
     ap (λ (env : Environment). state_at program input (record old { place = old.place + 1; env = env })) c.set.ensures
     ∙ sym (act-set program text_choice (main_frame program old.place old.env) c.args.expr.now (main_label program (old.place + 1)) (state_at program input old)
@@ -18,25 +18,23 @@ returns-in-Ok-clause-acts c = λ input program.
 pub returns-in-Ok-clause-declares : goal.returns-in-Ok-clause-declares
 returns-in-Ok-clause-declares c =
     let old = c.args.moment.now in
-    ComesTo-going (Var c.args.x c.args.expr.now) old (record old { place = old.place + 1; env = c.set.new.self }) old.end c.requires.going (record {
-      place = refl;
-      follows = λ end. end;
-      scope = scope_of-set old.env c.set.new.self c.args.x.0 c.in-Ok.value c.set.ensures;
-      row = row-set old.env c.set.new.self c.args.x.0 c.in-Ok.value c.set.ensures;
+    ComesTo-going (Var c.args.x c.args.expr.now) ((old.place + 1) ∷ []) old.env (record old { place = old.place + 1; env = c.set.new.self }) old.end c.requires.going (record {
+      place = (0, omega arith, refl);
+      scope = scope_of-set old.env c.set.new.self c.args.x.0 (Some c.in-Ok.value) c.set.ensures;
+      row = row-set old.env c.set.new.self c.args.x.0 (Some c.in-Ok.value) c.set.ensures;
     })
 
 pub returns-in-Ok-clause-assigns : goal.returns-in-Ok-clause-assigns
 returns-in-Ok-clause-assigns c = λ there.
     let old = c.args.moment.now in
-    ComesTo-going (Assign c.args.x c.args.expr.now) old (record old { place = old.place + 1; env = c.set.new.self }) old.end c.requires.going (record {
-      place = refl;
-      follows = λ end. end;
-      scope = scope_of-set old.env c.set.new.self c.args.x.0 c.in-Ok.value c.set.ensures ∙ set-same (scope_of old.env) c.args.x.0 there;
-      row = row-set old.env c.set.new.self c.args.x.0 c.in-Ok.value c.set.ensures;
+    ComesTo-going (Assign c.args.x c.args.expr.now) ((old.place + 1) ∷ []) old.env (record old { place = old.place + 1; env = c.set.new.self }) old.end c.requires.going (record {
+      place = (0, omega arith, refl);
+      scope = scope_of-set old.env c.set.new.self c.args.x.0 (Some c.in-Ok.value) c.set.ensures ∙ set-same (scope_of old.env) c.args.x.0 there;
+      row = row-set old.env c.set.new.self c.args.x.0 (Some c.in-Ok.value) c.set.ensures;
     })
 
 pub returns-in-Err-clause-acts : goal.returns-in-Err-clause-acts
-returns-in-Err-clause-acts c = λ input program.
+returns-in-Err-clause-acts c = λ program input.
     let old = c.args.moment.now in
     sym (act-set-trap program text_choice (main_frame program old.place old.env) c.args.expr.now (main_label program (old.place + 1)) (state_at program input old)
     c.in-Err.trap (c.eval.ensures [] ∙ c.in-Err.is) c.args.x)

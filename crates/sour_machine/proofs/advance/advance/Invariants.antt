@@ -1,8 +1,8 @@
-use Rattle.std.proofs.Common.{◌≢◌, ◌≤◌, ◌-◌, ℕ, true, length}
-use Rattle.sour_machine.specs.declared.report.End.{End}
-use Rattle.sour_machine.specs.declared.report.End.TheVariants.{Returned, Stopped, Trapped, Cut, Memory}
+use Rattle.std.proofs.Common.{◌≢◌, ◌≤◌, true, length}
+use Rattle.sour_machine.specs.declared.report.End.TheVariants.{Memory}
 use Rattle.sour_machine.specs.Moment.{run_at, Stands}
 use Rattle.sour_machine.specs.Run.{GoesOn}
+use Rattle.sour_machine.proofs.Measure.{before}
 use Rattle.sour_machine.proofs.advance.advance.Given as goal
 
 abbrev pub invariant-loop-moment : goal.invariant-loop-moment
@@ -13,13 +13,5 @@ invariant-loop-moment l = record {
   stands : Stands l.program l.input l.moment;
 }
 
--- the lines that a run has before it, by how it ends
-abbrev left : End → ℕ → ℕ
-left Cut lines = lines
-left (Returned value) lines = 0
-left Stopped lines = 0
-left (Trapped trap) lines = 0
-left Memory lines = 0
-
 abbrev pub decreases-loop-moment : goal.decreases-loop-moment
-decreases-loop-moment l = left l.moment.end (length l.lines - l.moment.place)
+decreases-loop-moment l = before l.budget (length l.lines) l.moment

@@ -1,38 +1,36 @@
-use Rattle.std.proofs.Common.{◌<◌, length, Err, ap, arith}
-use Rattle.std.proofs.lemmas.Bool.{OnTrue_at, OnFalse_at}
-use Rattle.std.proofs.lemmas.List.Elements.{recursion_from_All}
-use Rattle.sour_tokens.specs.Token.{IsOfItsKind}
-use Rattle.sour_reader.proofs.Faults.{no_token_from_unplaced}
-use Rattle.sour_reader.proofs.InputLaws.{inputs_so_far_more, whole_inputs, no_input, more_inputs, no_line}
+use Rattle.std.proofs.Common.{◌∷◌, [], Err, length-append, ap, sym, ◌∙◌, arith}
+use Rattle.std.proofs.lemmas.Bool.{false≢true}
+use Rattle.sour_reader.specs.Front.{IsInput, EndText}
+use Rattle.sour_reader.proofs.Faults.{unplaced_from_unplaced}
+use Rattle.sour_reader.proofs.Readings.{line_reads, line_reads_none, no_line_reads, so_far_more}
+use Rattle.sour_reader.proofs.BodyLaws.{only_one, not_one}
+use Rattle.sour_reader.proofs.InputLaws.{inputs_go_on, whole_inputs, too_many_inputs, no_input}
 use Rattle.sour_reader.proofs.inputs.read_each_input.Goals as goal
 
-pub returns-in_err-next_line-clause-unplaced : goal.returns-in_err-next_line-clause-unplaced
-returns-in_err-next_line-clause-unplaced c is inputs has limit =
-    let fault = no_token_from_unplaced c.from_residual.result _ c.from_residual.ensures.1 is in
-    no_line _ _ _ c.loop-inputs.invariant (c.in_err-next_line.ensures.no_token (ap Err fault)) inputs has
-
-pub input_of-requires : goal.input_of-requires
-input_of-requires c =
-    rw c.as_slice.ensures.value
-    (recursion_from_All IsOfItsKind c.next_line.new.tokens.items (OnTrue_at c.if-branch.true c.in_ok-next_line.ensures.kinds))
-
 pub returns-then-len-ge-MAX_INPUTS-clause-unplaced : goal.returns-then-len-ge-MAX_INPUTS-clause-unplaced
-returns-then-len-ge-MAX_INPUTS-clause-unplaced c is inputs has limit =
-    let more : length c.loop-inputs.inputs < length inputs = more_inputs _ _ _ _ _ c.loop-inputs.invariant (OnTrue_at c.if-branch.true c.in_ok-next_line.ensures.line) inputs has in
-    omega arith
+returns-then-len-ge-MAX_INPUTS-clause-unplaced c is =
+    too_many_inputs _ _ _ c.loop-alloc.invariant (λ ended. false≢true (sym c.loop-alloc-test.true ∙ c.is_at_end.ensures.1 ended)) (omega arith)
 
 pub returns-in_default-clause-unplaced : goal.returns-in_default-clause-unplaced
-returns-in_default-clause-unplaced c is inputs has limit =
-    no_input _ _ _ _ _ c.loop-inputs.invariant (OnTrue_at c.if-branch.true c.in_ok-next_line.ensures.line)
-    (rw c.as_slice.ensures.value at (rw c.in_default.is at c.in_ok-input.ensures)) inputs has
+returns-in_default-clause-unplaced c is =
+    no_input _ _ _ c.loop-alloc.invariant (λ ended. false≢true (sym c.loop-alloc-test.true ∙ c.is_at_end.ensures.1 ended))
+    (line_reads_none IsInput _ (not_one IsInput _ _ c.in_ok-input.field-0 c.tokens.ensures.spelled c.in_default.is c.in_ok-input.ensures))
 
-pub loop-inputs-preserved : goal.loop-inputs-preserved
-loop-inputs-preserved c =
-    let few : length c.loop-inputs.inputs < 4096 = omega arith in
+pub returns-in_err-advance-clause-unplaced : goal.returns-in_err-advance-clause-unplaced
+returns-in_err-advance-clause-unplaced c is =
+    let fault = unplaced_from_unplaced c.from_residual-in_err-advance.result _ c.from_residual-in_err-advance.ensures.1 is in
+    no_input _ _ _ c.loop-alloc.invariant (λ ended. false≢true (sym c.loop-alloc-test.true ∙ c.is_at_end.ensures.1 ended))
+    (no_line_reads IsInput _ (c.in_err-advance.ensures.unplaced (ap Err fault)))
+
+pub loop-alloc-preserved : goal.loop-alloc-preserved
+loop-alloc-preserved c =
     rw c.in_ok-push.ensures.ok
-    (inputs_so_far_more _ _ _ _ _ c.in-Some.input c.loop-inputs.invariant few (OnTrue_at c.if-branch.true c.in_ok-next_line.ensures.line)
-    (rw c.as_slice.ensures.value at (rw c.in-Some.is at c.in_ok-input.ensures)))
+    record {
+      read = so_far_more _ EndText _ _ _ _ _ c.loop-alloc.invariant.read
+          (inputs_go_on _ (λ ended. false≢true (sym c.loop-alloc-test.true ∙ c.is_at_end.ensures.1 ended)))
+          (line_reads IsInput _ _ _ (only_one IsInput _ _ c.in_ok-input.field-0 c.in-Some.input c.tokens.ensures.spelled c.in-Some.is c.in_ok-input.ensures) c.in_ok-advance.ensures.found);
+      limit = omega (arith, length-append c.loop-alloc.inputs (c.in-Some.input ∷ []));
+    }
 
 pub returns-clause-found : goal.returns-clause-found
-returns-clause-found c =
-    whole_inputs _ _ _ c.loop-inputs.invariant (OnFalse_at c.if-branch.false c.in_ok-next_line.ensures.none)
+returns-clause-found c = whole_inputs _ _ _ c.loop-alloc.invariant (c.is_at_end.ensures.0 c.loop-alloc-test.false)

@@ -5,8 +5,8 @@ use Rattle.sour_reader.proofs.instruction.assignment_of.Goals as goal
 
 pub returns-in-Some : goal.returns-in-Some
 returns-in-Some c =
-    (assignment c.args.names.now (spelling c.args.name.now) (map spelling c.args.behind.now) (Some (c.in-Some.x, c.in-Some.e)) c.setting_behind.new.names c.requires.begins (rw c.in-Some.is at c.in_ok-x.ensures))
+    assignment (spelling c.args.name.now) (map spelling c.args.behind.now) (Some (c.in-Some.x, c.in-Some.e)) c.requires.begins (rw c.in-Some.is at c.in_ok-x.ensures)
 
 pub returns-in-None : goal.returns-in-None
 returns-in-None c =
-    (assignment c.args.names.now (spelling c.args.name.now) (map spelling c.args.behind.now) None c.setting_behind.new.names c.requires.begins (rw c.in-None.is at c.in_ok-x.ensures))
+    assignment (spelling c.args.name.now) (map spelling c.args.behind.now) None c.requires.begins (rw c.in-None.is at c.in_ok-x.ensures)

@@ -1,4 +1,4 @@
-use Rattle.std.proofs.Common.{Some, None, map}
+use Rattle.std.proofs.Common.{Some, None, ◌∷◌, map}
 use Rattle.sour_tokens.specs.Token.{spelling}
 use Rattle.sour_reader.proofs.Instructions.{declaration}
 use Rattle.sour_reader.proofs.instruction.declaration_of.Goals as goal
@@ -6,9 +6,9 @@ use Rattle.sour_reader.proofs.instruction.declaration_of.Goals as goal
 pub returns-in-Some-2 : goal.returns-in-Some-2
 returns-in-Some-2 c =
     rw c.in-Some.ensures.cases.0
-    (declaration c.args.names.now (spelling c.in-Some.name.now) (map spelling c.in-Some.behind.now) (Some (c.in-Some-2.x, c.in-Some-2.e)) c.setting_behind.new.names (rw c.in-Some-2.is at c.in_ok-x.ensures))
+    (declaration (spelling c.in-Some.name.now ∷ map spelling c.in-Some.behind.now) (Some (c.in-Some-2.x, c.in-Some-2.e)) (rw c.in-Some-2.is at c.in_ok-x.ensures))
 
 pub returns-in-None : goal.returns-in-None
 returns-in-None c =
     rw c.in-Some.ensures.cases.0
-    (declaration c.args.names.now (spelling c.in-Some.name.now) (map spelling c.in-Some.behind.now) None c.setting_behind.new.names (rw c.in-None.is at c.in_ok-x.ensures))
+    (declaration (spelling c.in-Some.name.now ∷ map spelling c.in-Some.behind.now) None (rw c.in-None.is at c.in_ok-x.ensures))

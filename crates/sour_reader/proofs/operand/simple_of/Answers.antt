@@ -1,14 +1,15 @@
-use Rattle.std.proofs.Common.{Some, None}
+use Rattle.std.proofs.Common.{map}
+use Rattle.sour_tokens.specs.Token.{spelling}
+use Rattle.sour_reader.specs.declared.raw.RawSimple.TheVariants.{Name}
+use Rattle.sour_reader.specs.Instruction.{SpellsSimple}
+use Rattle.sour_reader.proofs.Found.{finds_same, mapped}
 use Rattle.sour_reader.proofs.Operands.{literal_operand, other_operand}
 use Rattle.sour_reader.proofs.operand.simple_of.Goals as goal
 
 pub returns-in-Some : goal.returns-in-Some
-returns-in-Some c = literal_operand c.args.names.now _ c.in-Some.literal c.requires.variables c.in-Some.ensures
+returns-in-Some c = literal_operand _ c.in-Some.literal c.in-Some.ensures
 
-pub returns-in-Some-2 : goal.returns-in-Some-2
-returns-in-Some-2 c =
-    other_operand c.args.names.now c.variable_alone.new.names _ (Some c.in-Some-2.x) c.in-None.ensures (rw c.in-Some-2.is at c.in_ok-x-in-None.ensures)
-
-pub returns-in-None-2 : goal.returns-in-None-2
-returns-in-None-2 c =
-    other_operand c.args.names.now c.variable_alone.new.names _ None c.in-None.ensures (rw c.in-None-2.is at c.in_ok-x-in-None.ensures)
+pub returns-in_ok-only_name-in-None : goal.returns-in_ok-only_name-in-None
+returns-in_ok-only_name-in-None c =
+    finds_same (λ a. SpellsSimple a (map spelling c.args.tokens.now)) c.map.result _ (mapped Name c.in_ok-only_name-in-None.field-0 c.map.result c.map.ensures.cases)
+    (other_operand (map spelling c.args.tokens.now) c.in_ok-only_name-in-None.field-0 c.in-None.ensures c.in_ok-only_name-in-None.ensures)

@@ -1,4 +1,4 @@
-use Rattle.std.proofs.Common.{◌≡◌, ℕ, List, Vec, Global, map, subst}
+use Rattle.std.proofs.Common.{ℕ, List, Vec, Global, map, subst}
 use Rattle.sour_syntax.specs.Names.{Numbers}
 use Rattle.sour_syntax.proofs.NameLemmas.{numbered}
 use Rattle.sour_syntax.proofs.names.Names.add.Goals as goal

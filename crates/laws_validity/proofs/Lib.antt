@@ -1,0 +1,5 @@
+pub mod Values
+pub mod Reached
+pub mod Frames
+pub mod Steps
+pub mod Runs

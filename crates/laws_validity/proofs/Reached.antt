@@ -1,0 +1,114 @@
+-- A label to which a path leads is that of a line.
+use Rattle.std.proofs.Common.{◌≡◌, ◌≢◌, ◌⊎◌, inl, inr, ⊎_elim, ℕ, zero, suc, List, [], ◌∷◌, Bool, true, false, cond, refl, sym, ap, ◌∙◌, subst, arith, Contains}
+use Rattle.std.specs.List.{AllByRecursion}
+use Rattle.std.specs.Str.{bytes_eq}
+use Rattle.std.proofs.lemmas.List.Elements.{All-from_recursion, All-contains, All-map}
+use Rattle.std.proofs.lemmas.Slice.Eq.{bytes_eq-Decides}
+use Rattle.sour_syntax.specs.declared.instruction.Instr.{Instr}
+use Rattle.sour_syntax.specs.declared.instruction.Instr.TheVariants.{Var, Drop, Assign, Print, Read, Branch, Goto, Return, Stop}
+use Rattle.sour_syntax.specs.declared.instruction.Line.{Line}
+use Rattle.sour_syntax.specs.Body.{IsBody}
+use Rattle.sour_syntax.specs.BodyView.{BodyView}
+use Rattle.sour_syntax.specs.Jumps.{named_labels}
+use Rattle.sour_syntax.specs.Labels.{from_label, first_label, labels_of}
+use Rattle.sour_syntax.specs.Scopes.{Scope, followers, HasScope}
+use Rattle.sour_syntax.specs.Terminator.{IsTerminator, EndsInTerminator}
+
+-- what holds of the first line and of the one found behind it holds of the one that is taken
+taken : (P : Line → Type 0) (test : Bool) (first : Line) (lines found : List Line) (line : Line) (rest : List Line) → P first
+    → (found ≡ line ∷ rest → P line) → cond test (first ∷ lines) found ≡ line ∷ rest → P line
+taken P true first lines found line rest holds inner stands = let same : first ≡ line = cc in subst P same holds
+taken P false first lines found line rest holds inner stands = inner stands
+
+-- what holds of each line holds of the one at a label
+pub All-from_label : (P : Line → Type 0) (label : List ℕ) (lines : List Line) (line : Line) (rest : List Line)
+    → AllByRecursion P lines → from_label label lines ≡ line ∷ rest → P line
+All-from_label P label [] line rest all stands = cc
+All-from_label P label (first ∷ lines) line rest all stands =
+    taken P (bytes_eq first.label label) first lines (from_label label lines) line rest all.0
+    (All-from_label P label lines line rest all.1) stands
+
+-- no line has this label
+abbrev HaveNot : List ℕ → List Line → Type 0
+HaveNot label lines = AllByRecursion (λ (line : Line). line.label ≢ label) lines
+
+-- where there are no lines from a label on, the first line hasn't it, nor has one behind it
+absent_first : (label : List ℕ) (line : Line) (lines found : List Line) (test : Bool) → bytes_eq line.label label ≡ test
+    → (found ≡ [] → HaveNot label lines) → cond test (line ∷ lines) found ≡ [] → HaveNot label (line ∷ lines)
+absent_first label line lines found true is inner none = absurd (cc)
+absent_first label line lines found false is inner none =
+    ((λ same. let found : bytes_eq line.label label ≡ true = (bytes_eq-Decides line.label label).1 same in absurd (cc)), inner none)
+
+-- where there are no lines from a label on, no line has it
+absent : (label : List ℕ) (lines : List Line) → from_label label lines ≡ [] → HaveNot label lines
+absent label [] none = tt
+absent label (line ∷ lines) none =
+    absent_first label line lines (from_label label lines) (bytes_eq line.label label) refl (absent label lines) none
+
+-- some line has the label of the first
+first_at : (label : List ℕ) (lines : List Line) → EndsInTerminator lines → label ≡ first_label lines → HaveNot label lines → ⊥
+first_at label [] end is not = absurd end
+first_at label (line ∷ lines) end is not = not.0 (sym is)
+
+-- the same of the first of the lines, by whether it is the one before
+next_first : (test : Bool) (label : List ℕ) (first : Line) (lines found : List Line) (line : Line) (rest : List Line)
+    → EndsInTerminator (first ∷ lines) → (IsTerminator line.instr → ⊥) → label ≡ first_label rest → HaveNot label lines
+    → (found ≡ line ∷ rest → ⊥) → cond test (first ∷ lines) found ≡ line ∷ rest → ⊥
+next_first true label first [] found line rest end going is not inner stands =
+    let Ends : Line → Type 0 = λ other. IsTerminator other.instr in
+    let same : first ≡ line = cc in
+    going (subst Ends same end)
+next_first true label first (next ∷ lines) found line rest end going is not inner stands =
+    let same : rest ≡ next ∷ lines = cc in
+    not.0 (sym (is ∙ ap first_label same))
+next_first false label first lines found line rest end going is not inner stands = inner stands
+
+-- some line has the label of the one behind a line that is no terminator
+next_at : (from label : List ℕ) (lines : List Line) (line : Line) (rest : List Line) → EndsInTerminator lines
+    → (IsTerminator line.instr → ⊥) → label ≡ first_label rest → HaveNot label lines → from_label from lines ≡ line ∷ rest → ⊥
+next_at from label [] line rest end going is not stands = absurd end
+next_at from label (first ∷ []) line rest end going is not stands =
+    next_first (bytes_eq first.label from) label first [] [] line rest end going is not.1 (λ (none : [] ≡ line ∷ rest). cc) stands
+next_at from label (first ∷ next ∷ lines) line rest end going is not stands =
+    next_first (bytes_eq first.label from) label first (next ∷ lines) (from_label from (next ∷ lines)) line rest end going is not.1
+    (next_at from label (next ∷ lines) line rest end going is not.1) stands
+
+-- some line has a label that is among those of the lines
+named_at : (label : List ℕ) (lines : List Line) → Contains (labels_of lines) label → HaveNot label lines → ⊥
+named_at label lines known not =
+    let differs : List ℕ → Type 0 = λ name. name ≢ label in
+    All-contains differs (labels_of lines) label
+    (All-map differs (λ (line : Line). line.label) lines (All-from_recursion (λ (line : Line). line.label ≢ label) lines not)) known refl
+
+-- the one element of a list
+one : (next label : List ℕ) → Contains (next ∷ []) label → label ≡ next
+one next label (zero, within, same) = sym same
+one next label (suc place, within, same) = absurd (omega (arith, within))
+
+-- what follows an instruction is the line behind it, where it is no terminator, or has a label that it names
+followed : (instr : Instr) (next label : List ℕ) → Contains (followers instr next) label
+    → ((IsTerminator instr → ⊥) × (label ≡ next)) ⊎ Contains (named_labels instr) label
+followed (Var x e) next label contains = inl ((λ none. none), one next label contains)
+followed (Drop x) next label contains = inl ((λ none. none), one next label contains)
+followed (Assign x e) next label contains = inl ((λ none. none), one next label contains)
+followed (Print e) next label contains = inl ((λ none. none), one next label contains)
+followed (Read x) next label contains = inl ((λ none. none), one next label contains)
+followed (Branch e a b) next label contains = inr contains
+followed (Goto a) next label contains = inr contains
+followed (Return e) next label contains = inr contains
+followed Stop next label contains = inr contains
+
+-- there are lines from a label on to which a path leads
+pub reached : (body : BodyView) (count : ℕ) (label : List ℕ) (scope : Scope) → IsBody body → HasScope body count label scope
+    → from_label label body.lines ≡ [] → ⊥
+reached body zero label scope is path none = first_at label body.lines is.end path.0 (absent label body.lines none)
+reached body (suc count) label scope is (from, before, line, rest, path, at, contains, same) none =
+    ⊎_elim
+    (λ onward. next_at from label body.lines line rest is.end onward.0 onward.1 (absent label body.lines none) at.stands)
+    (λ named.
+    let Known : List ℕ → Type 0 = Contains (labels_of body.lines) in
+    let names : AllByRecursion Known (named_labels line.instr) =
+    All-from_label (λ (other : Line). AllByRecursion Known (named_labels other.instr)) from body.lines line rest is.jumps at.stands in
+    named_at label body.lines (All-contains Known (named_labels line.instr) label (All-from_recursion Known (named_labels line.instr) names) named)
+    (absent label body.lines none))
+    (followed line.instr (first_label rest) label contains)

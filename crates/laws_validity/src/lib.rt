@@ -1,0 +1,20 @@
+//! Laws about the states of a run. Each is the contract of a function that does nothing; the proofs go
+//! by the definitions of `sour_semantics` alone.
+#![tactic(auto)]
+
+ghost use Rattle.laws_validity.specs.Laws.{StartsValid, StaysValid, NeverGetsStuck};
+
+/// A run of a checked program starts in a valid state.
+pub fn start()
+    ensures { StartsValid }
+{}
+
+/// A step from a valid state gives a valid state.
+pub fn step()
+    ensures { StaysValid }
+{}
+
+/// A run of a checked program never gets stuck.
+pub fn never_stuck()
+    ensures { NeverGetsStuck }
+{}

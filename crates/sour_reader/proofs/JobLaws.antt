@@ -1,0 +1,188 @@
+-- What is read from the front of a text is what its grammar says.
+use Rattle.std.proofs.Common.{◌≡◌, ◌↔◌, ℕ, ◌≤◌, List, [], ◌∷◌, ◌++◌, length, append_assoc, refl, sym, ap, ◌∙◌, subst, inl, inr, arith}
+use Rattle.std.specs.Prelude.{codes}
+use Rattle.std.specs.List.{AllByRecursion}
+use Rattle.sour_tokens.specs.Text.{HasTokenLines}
+use Rattle.sour_reader.specs.declared.raw.RawLine.{RawLine}
+use Rattle.sour_reader.specs.declared.raw.RawVersion.{RawVersion}
+use Rattle.sour_reader.specs.declared.raw.RawFunction.{RawFunction}
+use Rattle.sour_reader.specs.declared.raw.RawInput.{RawInput}
+use Rattle.sour_reader.specs.declared.raw.RawJob.{RawJob}
+use Rattle.sour_reader.specs.Instruction.{SpellsLine}
+use Rattle.sour_reader.specs.Inputs.{SpellsEachInput, SpellsInputs}
+use Rattle.sour_reader.specs.Limits.{IsShortVersion, IsShortFunction, IsShortInput, IsShort}
+use Rattle.sour_reader.specs.Job.{SpellsLines, SpellsVersion, SpellsVersions, SpellsFunction, SpellsFunctions, SpellsJob, Reads, parameters_spelling, version_heading, function_heading, function_end}
+use Rattle.sour_reader.specs.Ahead.{AheadView, AreLeft, ReadsAs, ReadsAsNone, OneLine, EachUpTo}
+use Rattle.sour_reader.specs.Front.{BeginsVersionOrEnd, EndVersion, HasVersion, EndFunction, HasFunction, EndFunctions, HasFunctions, IsInput, EndText, HasInputs, HasJob}
+use Rattle.sour_reader.proofs.Readings.{left_at_end, reads_both, reads_none_first, reads_none_second}
+
+abbrev Lines : Type 0
+Lines = List (List (List ℕ))
+
+body_from : (body : List RawLine) (front after : Lines) → SpellsLines body front → EndVersion after → EachUpTo (OneLine SpellsLine) EndVersion body (front ++ after) after
+body_from [] [] after spelled ended = (refl, ended)
+body_from [] (tokens ∷ front) after spelled ended = absurd spelled
+body_from (line ∷ body) [] after spelled ended = absurd spelled
+body_from (line ∷ body) (tokens ∷ front) after (one, more) ended = (front ++ after, (tokens, refl, one), body_from body front after more ended)
+
+body_to : (body : List RawLine) (lines after : Lines) → EachUpTo (OneLine SpellsLine) EndVersion body lines after → (front : Lines) × (lines ≡ front ++ after) × SpellsLines body front × EndVersion after
+body_to [] lines after (is, ended) = ([], is, tt, subst EndVersion is ended)
+body_to (line ∷ body) lines after (rest, (tokens, is, one), more) =
+    let r = body_to body rest after more in
+    (tokens ∷ r.0, is ∙ ap (λ it. tokens ∷ it) r.1, (one, r.2), r.3)
+
+version_from : (parameters : List (List ℕ)) (version : RawVersion) (front after : Lines) → SpellsVersion version front → IsShortVersion parameters version → EndVersion after → HasVersion parameters version (front ++ after) after
+version_from parameters version front after (lines, is, name, spelled) short ended = (
+  lines ++ after,
+  (version_heading version.name, ap (λ it. it ++ after) is, (refl, name)),
+  (body_from version.lines lines after spelled ended, (short.lines, short.variables)),
+)
+
+version_to : (parameters : List (List ℕ)) (version : RawVersion) (lines after : Lines) → HasVersion parameters version lines after → (front : Lines) × (lines ≡ front ++ after) × SpellsVersion version front × IsShortVersion parameters version × EndVersion after
+version_to parameters version lines after (rest, (tokens, is, (heading, name)), (each, short)) =
+    let r = body_to version.lines rest after each in (
+      version_heading version.name ∷ r.0,
+      is ∙ ap (λ it. it ∷ rest) heading ∙ ap (λ it. version_heading version.name ∷ it) r.1,
+      (r.0, refl, name, r.2),
+      record { lines = short.0; variables = short.1 },
+      r.3,
+    )
+
+-- a line that ends a function comes behind the lines of a version
+function_end_ends : (after : Lines) → EndFunction after → EndVersion after
+function_end_ends [] ended = ended
+function_end_ends (tokens ∷ lines) ended = subst BeginsVersionOrEnd (sym ended) (inr refl)
+
+-- and so does another version
+versions_end : (versions : List RawVersion) (rest after : Lines) → SpellsVersions versions rest → EndFunction after → EndVersion (rest ++ after)
+versions_end [] rest after is ended = subst (λ it. EndVersion (it ++ after)) (sym is) (function_end_ends after ended)
+versions_end (version ∷ versions) rest after (one, others, is, (lines, whole, name, spelled), more) ended =
+    let first : rest ≡ version_heading version.name ∷ lines ++ others = is ∙ ap (λ it. it ++ others) whole in
+    subst (λ it. EndVersion (it ++ after)) (sym first) (inl refl)
+
+versions_from : (parameters : List (List ℕ)) (versions : List RawVersion) (front after : Lines) → SpellsVersions versions front → AllByRecursion (IsShortVersion parameters) versions → EndFunction after → EachUpTo (HasVersion parameters) EndFunction versions (front ++ after) after
+versions_from parameters [] front after is short ended = subst (λ it. EachUpTo (HasVersion parameters) EndFunction [] (it ++ after) after) (sym is) (refl, ended)
+versions_from parameters (version ∷ versions) front after (one, rest, is, spelled, more) short ended = (
+  rest ++ after,
+  subst (λ it. HasVersion parameters version it (rest ++ after)) (sym (ap (λ it. it ++ after) is ∙ append_assoc one rest after))
+  (version_from parameters version one (rest ++ after) spelled short.0 (versions_end versions rest after more ended)),
+  versions_from parameters versions rest after more short.1 ended,
+)
+
+versions_to : (parameters : List (List ℕ)) (versions : List RawVersion) (lines after : Lines) → EachUpTo (HasVersion parameters) EndFunction versions lines after → (front : Lines) × (lines ≡ front ++ after) × SpellsVersions versions front × AllByRecursion (IsShortVersion parameters) versions × EndFunction after
+versions_to parameters [] lines after (is, ended) = ([], is, refl, tt, subst EndFunction is ended)
+versions_to parameters (version ∷ versions) lines after (rest, one, more) =
+    let a = version_to parameters version lines rest one in
+    let b = versions_to parameters versions rest after more in
+    (a.0 ++ b.0, a.1 ∙ ap (λ it. a.0 ++ it) b.1 ∙ sym (append_assoc a.0 b.0 after), (a.0, b.0, refl, a.2, b.2), (a.3, b.3), b.4)
+
+function_from : (function : RawFunction) (front after : Lines) → SpellsFunction function front → IsShortFunction function → HasFunction function (front ++ after) after
+function_from function front after spelled short = (
+  spelled.lines ++ function_end ∷ after,
+  (
+    function_heading function.name function.parameters,
+    ap (λ it. it ++ after) spelled.whole ∙ ap (λ it. function_heading function.name function.parameters ∷ it) (append_assoc spelled.lines (function_end ∷ []) after),
+    (parameters_spelling function.parameters ++ codes ")" ∷ [], refl, spelled.name, (refl, spelled.parameters, short.parameters)),
+  ),
+  (versions_from function.parameters function.versions spelled.lines (function_end ∷ after) spelled.versions short.each refl, (spelled.some, short.versions)),
+)
+
+function_to : (function : RawFunction) (lines after : Lines) → HasFunction function lines after → (front : Lines) × (lines ≡ front ++ after) × SpellsFunction function front × IsShortFunction function
+function_to function lines after (rest, (tokens, is, (behind, whole, name, (listed, named, few))), (each, (some, count))) =
+    let v = versions_to function.parameters function.versions rest (function_end ∷ after) each in
+    let heading : tokens ≡ function_heading function.name function.parameters = whole ∙ ap (λ it. codes "fun" ∷ function.name ∷ codes "(" ∷ it) listed in (
+      function_heading function.name function.parameters ∷ v.0 ++ function_end ∷ [],
+      is ∙ ap (λ it. it ∷ rest) heading ∙ ap (λ it. function_heading function.name function.parameters ∷ it) (v.1 ∙ sym (append_assoc v.0 (function_end ∷ []) after)),
+      record { lines = v.0; whole = refl; name = name; parameters = named; some = some; versions = v.2 },
+      record { parameters = few; versions = count; each = v.3 },
+    )
+
+functions_from : (functions : List RawFunction) (front after : Lines) → SpellsFunctions functions front → AllByRecursion IsShortFunction functions → EndFunctions after → EachUpTo HasFunction EndFunctions functions (front ++ after) after
+functions_from [] front after is short ended = subst (λ it. EachUpTo HasFunction EndFunctions [] (it ++ after) after) (sym is) (refl, ended)
+functions_from (function ∷ functions) front after (one, rest, is, spelled, more) short ended = (
+  rest ++ after,
+  subst (λ it. HasFunction function it (rest ++ after)) (sym (ap (λ it. it ++ after) is ∙ append_assoc one rest after)) (function_from function one (rest ++ after) spelled short.0),
+  functions_from functions rest after more short.1 ended,
+)
+
+functions_to : (functions : List RawFunction) (lines after : Lines) → EachUpTo HasFunction EndFunctions functions lines after → (front : Lines) × (lines ≡ front ++ after) × SpellsFunctions functions front × AllByRecursion IsShortFunction functions
+functions_to [] lines after (is, ended) = ([], is, refl, tt)
+functions_to (function ∷ functions) lines after (rest, one, more) =
+    let a = function_to function lines rest one in
+    let b = functions_to functions rest after more in
+    (a.0 ++ b.0, a.1 ∙ ap (λ it. a.0 ++ it) b.1 ∙ sym (append_assoc a.0 b.0 after), (a.0, b.0, refl, a.2, b.2), (a.3, b.3))
+
+each_from : (inputs : List RawInput) (lines : Lines) → SpellsEachInput inputs lines → AllByRecursion IsShortInput inputs → EachUpTo (OneLine IsInput) EndText inputs lines []
+each_from [] [] spelled short = (refl, refl)
+each_from [] (tokens ∷ lines) spelled short = absurd spelled
+each_from (input ∷ inputs) [] spelled short = absurd spelled
+each_from (input ∷ inputs) (tokens ∷ lines) (one, more) short = (lines, (tokens, refl, (one, short.0)), each_from inputs lines more short.1)
+
+each_to : (inputs : List RawInput) (lines after : Lines) → EachUpTo (OneLine IsInput) EndText inputs lines after → SpellsEachInput inputs lines × AllByRecursion IsShortInput inputs
+each_to [] lines after (is, ended) = (subst (SpellsEachInput []) (sym ended) tt, tt)
+each_to (input ∷ inputs) lines after (rest, (tokens, is, (one, short)), more) =
+    let r = each_to inputs rest after more in
+    (subst (SpellsEachInput (input ∷ inputs)) (sym is) (one, r.0), (short, r.1))
+
+inputs_from : (inputs : List RawInput) (lines : Lines) → SpellsInputs inputs lines → length inputs ≤ 4096 → AllByRecursion IsShortInput inputs → HasInputs inputs lines []
+inputs_from inputs [] is few short = (is, refl)
+inputs_from inputs (line ∷ lines) (heading, each) few short = (heading, (each_from inputs lines each short, few))
+
+inputs_to : (inputs : List RawInput) (lines after : Lines) → HasInputs inputs lines after → SpellsInputs inputs lines × (length inputs ≤ 4096) × AllByRecursion IsShortInput inputs
+inputs_to inputs [] after (is, none) = (is, omega (arith, ap length is), subst (AllByRecursion IsShortInput) (sym is) tt)
+inputs_to inputs (line ∷ lines) after (heading, (each, few)) = let r = each_to inputs lines after each in ((heading, r.0), few, r.1)
+
+-- the inputs come behind the functions
+inputs_end : (inputs : List RawInput) (lines : Lines) → SpellsInputs inputs lines → EndFunctions lines
+inputs_end inputs [] spelled = tt
+inputs_end inputs (line ∷ lines) spelled = spelled.0
+
+job_from : (job : RawJob) (lines : Lines) → SpellsJob job lines → IsShort job → HasJob job lines []
+job_from job lines spelled short =
+    subst (λ it. HasJob job it []) (sym spelled.whole) (
+      spelled.inputs,
+      (functions_from job.functions spelled.functions spelled.inputs spelled.each short.each (inputs_end job.inputs spelled.inputs spelled.given), (spelled.some, short.functions)),
+      inputs_from job.inputs spelled.inputs spelled.given short.inputs short.each_input,
+    )
+
+job_to : (bytes : List ℕ) (job : RawJob) (lines after : Lines) → HasTokenLines bytes lines → HasJob job lines after → Reads bytes job
+job_to bytes job lines after has (rest, (each, (some, count)), given) =
+    let f = functions_to job.functions lines rest each in
+    let i = inputs_to job.inputs rest after given in
+    record {
+      lines = lines;
+      whole = has;
+      spelled = record { functions = f.0; inputs = rest; whole = f.1; some = some; each = f.2; given = i.0 };
+      short = record { functions = count; each = f.3; inputs = i.1; each_input = i.2 };
+    }
+
+-- the lines of the text are those that are left at first
+abbrev pub AreOf : AheadView → List ℕ → Type 0
+AreOf ahead bytes = (lines : List (List (List ℕ))) → AreLeft ahead lines ↔ HasTokenLines bytes lines
+
+-- where they spell no job, the bytes read as none
+pub reads_nothing : (bytes : List ℕ) (start : AheadView) → AreOf start bytes → ReadsAsNone HasJob start → (job : RawJob) → Reads bytes job → ⊥
+reads_nothing bytes start are none job reads = none job reads.lines [] ((are reads.lines).1 reads.whole) (job_from job reads.lines reads.spelled reads.short)
+
+pub no_functions : (start : AheadView) → ReadsAsNone HasFunctions start → ReadsAsNone HasJob start
+no_functions start none = reads_none_first HasFunctions (λ it. HasInputs) (λ (job : RawJob). job.functions) (λ (job : RawJob). job.inputs) start none
+
+pub no_inputs : (start mid : AheadView) (functions : List RawFunction) → ReadsAs HasFunctions start mid functions → ReadsAsNone HasInputs mid → ReadsAsNone HasJob start
+no_inputs start mid functions first none = reads_none_second HasFunctions (λ it. HasInputs) (λ (job : RawJob). job.functions) (λ (job : RawJob). job.inputs) start mid functions first none
+
+-- the bytes read as the job of these functions and inputs, and as no other
+pub reads_job : (bytes : List ℕ) (start mid end : AheadView) (functions : List RawFunction) (inputs : List RawInput) → AreOf start bytes → ReadsAs HasFunctions start mid functions → ReadsAs HasInputs mid end inputs → end.next ≡ []
+    → (other : RawJob) → Reads bytes other ↔ (other ≡ record { functions = functions; inputs = inputs })
+reads_job bytes start mid end functions inputs are first second ended other = (to, from)
+  where
+    whole : ReadsAs HasJob start end (record { functions = functions; inputs = inputs })
+    whole = reads_both HasFunctions (λ it. HasInputs) (λ all given. record { functions = all; inputs = given }) (λ (job : RawJob). job.functions) (λ (job : RawJob). job.inputs) start mid end functions inputs
+        (λ z. refl) (λ a b. refl) (λ a b. refl) first second
+
+    to : Reads bytes other → other ≡ record { functions = functions; inputs = inputs }
+    to reads = ((whole other []).0 (reads.lines, (are reads.lines).1 reads.whole, job_from other reads.lines reads.spelled reads.short)).0
+
+    from : other ≡ record { functions = functions; inputs = inputs } → Reads bytes other
+    from is =
+        let all = (whole other []).1 (is, (left_at_end end ended []).1 refl) in
+        job_to bytes other all.0 [] ((are all.0).0 all.1) all.2

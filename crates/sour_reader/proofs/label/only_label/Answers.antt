@@ -1,0 +1,7 @@
+use Rattle.std.proofs.Common.{arith}
+use Rattle.sour_reader.specs.Instruction.{IsLabel}
+use Rattle.sour_reader.proofs.Labels.{only_one}
+use Rattle.sour_reader.proofs.label.only_label.Goals as goal
+
+pub returns : goal.returns
+returns c = only_one IsLabel _ c.args.tokens.now c.label_of.result (omega arith) c.label_of.ensures

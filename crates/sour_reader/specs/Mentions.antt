@@ -1,0 +1,52 @@
+-- The variables of a version: its parameters, and then the other names that it mentions, in the order of their first mention.
+use Rattle.std.specs.Prelude.{ℕ, List, [], ◌∷◌, ◌++◌, if◌then◌else◌}
+use Rattle.std.specs.List.{list_any}
+use Rattle.std.specs.Str.{bytes_eq}
+use Rattle.sour_reader.specs.declared.raw.RawSimple.{RawSimple}
+use Rattle.sour_reader.specs.declared.raw.RawSimple.TheVariants as simple
+use Rattle.sour_reader.specs.declared.raw.RawExpr.{RawExpr}
+use Rattle.sour_reader.specs.declared.raw.RawExpr.TheVariants as expr
+use Rattle.sour_reader.specs.declared.raw.RawInstr.{RawInstr}
+use Rattle.sour_reader.specs.declared.raw.RawInstr.TheVariants.{Var, Drop, Assign, Print, Read, Branch, Goto, Return, Stop}
+use Rattle.sour_reader.specs.declared.raw.RawLine.{RawLine}
+
+-- the names in an operand
+abbrev pub simple_names : RawSimple → List (List ℕ)
+simple_names (simple.Lit literal) = []
+simple_names (simple.Name name) = name ∷ []
+
+-- the names in an expression, in the order in which they are written
+abbrev pub expr_names : RawExpr → List (List ℕ)
+expr_names (expr.Plain a) = simple_names a
+expr_names (expr.Not a) = simple_names a
+expr_names (expr.Binary op a b) = simple_names a ++ simple_names b
+
+-- the names of variables in an instruction, in the order in which they are written
+abbrev pub instr_names : RawInstr → List (List ℕ)
+instr_names (Var x e) = x ∷ expr_names e
+instr_names (Drop x) = x ∷ []
+instr_names (Assign x e) = x ∷ expr_names e
+instr_names (Print e) = expr_names e
+instr_names (Read x) = x ∷ []
+instr_names (Branch e a b) = expr_names e
+instr_names (Goto a) = []
+instr_names (Return e) = expr_names e
+instr_names Stop = []
+
+-- a name is put behind the others where it isn't among them
+abbrev pub with_name : List (List ℕ) → List ℕ → List (List ℕ)
+with_name names name = if list_any (bytes_eq name) names then names else names ++ name ∷ []
+
+-- each of these names in turn
+abbrev pub with_names : List (List ℕ) → List (List ℕ) → List (List ℕ)
+with_names names [] = names
+with_names names (name ∷ others) = with_names (with_name names name) others
+
+-- the names that lines mention are put behind the others
+abbrev pub with_lines : List (List ℕ) → List RawLine → List (List ℕ)
+with_lines names [] = names
+with_lines names (line ∷ lines) = with_lines (with_names names (instr_names line.instr)) lines
+
+-- the variables of a version with these parameters and these lines
+abbrev pub variables_of : List (List ℕ) → List RawLine → List (List ℕ)
+variables_of parameters lines = with_lines (with_names [] parameters) lines

@@ -1,0 +1,6 @@
+pub mod ListLaws
+pub mod NameLaws
+pub mod LineLaws
+pub mod VersionLaws
+pub mod FunctionLaws
+pub mod MainLaws

@@ -1,0 +1,95 @@
+-- The function main: there is one at most, and the program has it.
+use Rattle.std.proofs.Common.{◌≡◌, ◌+◌, ℕ, zero, suc, Bool, List, [], ◌∷◌, Some, length, map, eqb, refl, sym, ap, ◌∙◌, subst, arith}
+use Rattle.std.specs.Prelude.{◌↔◌}
+use Rattle.std.specs.Bool.{IsTrue}
+use Rattle.std.specs.List.{slice_get}
+use Rattle.std.proofs.lemmas.Bool.Decides.{Decides-eqb}
+use Rattle.sour_syntax.specs.declared.literal.FunId.{FunId}
+use Rattle.sour_syntax.specs.declared.literal.Literal.{Literal}
+use Rattle.sour_syntax.specs.declared.program.Function.{Function}
+use Rattle.sour_syntax.specs.Program.{ProgramView, HasMain}
+use Rattle.sour_reader.specs.declared.raw.RawVersion.{RawVersion}
+use Rattle.sour_reader.specs.declared.raw.RawFunction.{RawFunction}
+use Rattle.sour_reader.specs.declared.raw.RawJob.{RawJob}
+use Rattle.sour_reader.specs.Job.{SpellsFunctions}
+use Rattle.sour_scope.specs.Numbered.{version_of, function_of, functions_of, inputs_of}
+use Rattle.sour_scope.specs.Checked.{NamesDiffer, AreAccepted, IsMain, IsChecked}
+use Rattle.sour_scope.proofs.NameLaws.{named_once}
+use Rattle.sour_scope.proofs.FunctionLaws.{function_name}
+
+-- of two tests, where the first holds
+pub same_and_empty : (name main : List ℕ) (parameters : List (List ℕ)) (empty : Bool) → name ≡ main → empty ≡ eqb (length parameters) 0
+    → IsTrue empty ↔ ((name ≡ main) × (parameters ≡ []))
+same_and_empty name main [] empty same is = (λ yes. (same, refl), λ both. is)
+same_and_empty name main (parameter ∷ parameters) empty same is = (
+  λ yes. let none : length (parameter ∷ parameters) ≡ 0 = (Decides-eqb (length (parameter ∷ parameters)) 0).0 (sym is ∙ yes) in absurd (omega arith),
+  λ both. let none : parameter ∷ parameters ≡ [] = both.1 in absurd (cc),
+)
+
+-- where no two functions have the same name, one is main at most
+main_once : (functions : List RawFunction) (i j : ℕ) → NamesDiffer (map function_name functions) → IsMain functions i → IsMain functions j → i ≡ j
+main_once functions i j differ one other =
+    named_once function_name functions _ i j one.function other.function differ one.there other.there one.name other.name
+
+slice_get-functions_of : (number last place : ℕ) (functions : List RawFunction) (function : RawFunction) → last ≡ number + place
+    → slice_get functions place ≡ Some function → slice_get (functions_of number functions) place ≡ Some (function_of last function)
+slice_get-functions_of number last place [] function is at = absurd (cc)
+slice_get-functions_of number last zero (first ∷ functions) function is at =
+    let here : number ≡ last = omega arith in
+    let same : first ≡ function = cc in
+    ap (λ n. Some (function_of n first)) here ∙ ap (λ f. Some (function_of last f)) same
+slice_get-functions_of number last (suc place) (first ∷ functions) function is at =
+    slice_get-functions_of (suc number) last place functions function (omega arith) at
+
+-- a function of a text has versions
+has_versions : (functions : List RawFunction) (text : List (List (List ℕ))) (place : ℕ) (function : RawFunction)
+    → SpellsFunctions functions text → slice_get functions place ≡ Some function → function.versions ≡ [] → ⊥
+has_versions [] text place function spells at none = absurd (cc)
+has_versions (first ∷ functions) text zero function (front, rest, whole, spelled, others) at none =
+    let same : first ≡ function = cc in
+    spelled.some (ap (λ (f : RawFunction). f.versions) same ∙ none)
+has_versions (first ∷ functions) text (suc place) function (front, rest, whole, spelled, others) at none =
+    has_versions functions rest place function others at none
+
+main_versions : (functions : List Function) (main : FunId) (function : RawFunction) (versions : List RawVersion)
+    → slice_get functions main.0 ≡ Some (function_of main.0 function) → function.parameters ≡ [] → function.versions ≡ versions → (versions ≡ [] → ⊥)
+    → HasMain (record { functions = functions; main = main })
+main_versions functions main function [] found parameters is some = absurd (some refl)
+main_versions functions main function (version ∷ versions) found parameters is some = record {
+  function = function_of main.0 function;
+  version = version_of main.0 function.parameters version;
+  others = map (version_of main.0 function.parameters) versions;
+  found = found;
+  text = ap (map (version_of main.0 function.parameters)) is;
+  parameters = ap length parameters;
+}
+
+-- the program has a function main with a version and without parameters
+pub has_main : (raw : List RawFunction) (text : List (List (List ℕ))) (functions : List Function) (main : FunId)
+    → SpellsFunctions raw text → IsMain raw main.0 → functions ≡ functions_of 0 raw → HasMain (record { functions = functions; main = main })
+has_main raw text functions main spells is made =
+    let found = slice_get-functions_of 0 main.0 main.0 raw is.function (omega arith) is.there in
+    main_versions functions main is.function is.function.versions (ap (λ zs. slice_get zs main.0) made ∙ found) is.parameters refl
+    (has_versions raw text main.0 is.function spells is.there)
+
+-- the text is accepted as this program and these inputs, and as no others
+pub checked_once : (raw : RawJob) (functions : List Function) (main : FunId) (inputs : List (List Literal))
+    → NamesDiffer (map function_name raw.functions) → AreAccepted 0 raw.functions → IsMain raw.functions main.0
+    → functions ≡ functions_of 0 raw.functions → inputs ≡ inputs_of raw.inputs
+    → (program : ProgramView) (others : List (List Literal)) → IsChecked raw program others ↔ ((program ≡ record { functions = functions; main = main }) × (others ≡ inputs))
+checked_once raw functions main inputs differ accepted is numbered given program others = (to, from)
+  where
+    to : IsChecked raw program others → (program ≡ record { functions = functions; main = main }) × (others ≡ inputs)
+    to checked =
+        let same : program.main.0 ≡ main.0 = main_once raw.functions program.main.0 main.0 differ checked.main is in
+        let made : List Function → ℕ → ProgramView = λ f n. record { functions = f; main = record { 0 = n } } in
+        (ap (λ f. made f program.main.0) (checked.numbered ∙ sym numbered) ∙ ap (made functions) same, checked.given ∙ sym given)
+
+    from : (program ≡ record { functions = functions; main = main }) × (others ≡ inputs) → IsChecked raw program others
+    from (program_is, others_is) = record {
+      names = differ;
+      each = accepted;
+      main = subst (λ (p : ProgramView). IsMain raw.functions p.main.0) (sym program_is) is;
+      numbered = ap (λ (p : ProgramView). p.functions) program_is ∙ numbered;
+      given = others_is ∙ given;
+    }

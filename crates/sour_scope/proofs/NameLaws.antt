@@ -1,0 +1,163 @@
+-- Names and their numbers: where names differ each has one place, and keeps it when names are put behind.
+use Rattle.std.proofs.Common.{◌≡◌, ◌≢◌, inl, inr, ℕ, zero, suc, ◌+◌, ◌≤◌, Bool, true, false, cond, not, ◌||◌, List, [], ◌∷◌, ◌++◌, Some, nat_eq, map, take, get_or, ◌<◌, length, length-append, append_assoc, append-nil, Result, Ok, Err, refl, sym, ap, ◌∙◌, subst, arith}
+use Rattle.std.specs.Prelude.{◌↔◌}
+use Rattle.std.specs.Bool.{IsTrue, OnTrue}
+use Rattle.std.specs.Result.{IfOk, OnErr}
+use Rattle.std.specs.Option.{option_map}
+use Rattle.std.proofs.lemmas.List.{map-append}
+use Rattle.std.specs.List.{AllByRecursion, list_any, position_or_len, slice_get}
+use Rattle.std.specs.Str.{bytes_eq}
+use Rattle.std.proofs.lemmas.Slice.Eq.{bytes_eq-Decides}
+use Rattle.std.proofs.lemmas.Bool.{false≢true}
+use Rattle.std.proofs.lemmas.Bool.Decides.{Decides-eqb}
+use Rattle.std.proofs.lemmas.Option.{slice_get_within, slice_get-map, slice_get_read}
+use Rattle.std.proofs.lemmas.Map.Keys.{any_passes_from_place}
+use Rattle.sour_syntax.specs.declared.literal.VarId.{VarId}
+use Rattle.sour_syntax.specs.Names.{Numbers}
+use Rattle.sour_reader.specs.Mentions.{with_name, with_names}
+use Rattle.sour_scope.specs.Numbered.{number_of}
+use Rattle.sour_scope.specs.Checked.{NamesDiffer}
+use Rattle.sour_scope.proofs.ListLaws.{all_at, all_push, slice_get-last}
+
+tested : (a b : List ℕ) (test : Bool) → bytes_eq a b ≡ test → a ≢ b → bytes_eq a b ≡ false
+tested a b true is other = absurd (other ((bytes_eq-Decides a b).0 is))
+tested a b false is other = is
+
+-- the test of two names that differ
+bytes_eq-other : (a b : List ℕ) → a ≢ b → bytes_eq a b ≡ false
+bytes_eq-other a b other = tested a b (bytes_eq a b) refl other
+
+-- where no two names are the same, one that stands at a place stands first there, whatever comes behind
+first_place : (names more : List (List ℕ)) (name : List ℕ) (place : ℕ) → NamesDiffer names → slice_get names place ≡ Some name
+    → place ≡ position_or_len (bytes_eq name) (names ++ more)
+first_place [] more name place differ at = absurd (cc)
+first_place (first ∷ names) more name zero differ at =
+    let same : name ≡ first = cc in
+    ap (λ test. cond (not test) (1 + position_or_len (bytes_eq name) (names ++ more)) 0) (sym ((bytes_eq-Decides name first).1 same))
+first_place (first ∷ names) more name (suc place) differ at =
+    let other : name ≢ first = all_at (λ other. other ≢ first) names place name differ.0 at in
+    let next : place ≡ position_or_len (bytes_eq name) (names ++ more) = first_place names more name place differ.1 at in
+    let here : suc place ≡ 1 + position_or_len (bytes_eq name) (names ++ more) = omega arith in
+    here ∙ ap (λ test. cond (not test) (1 + position_or_len (bytes_eq name) (names ++ more)) 0) (sym (bytes_eq-other name first other))
+
+-- no name of these is the same
+none_same : (names : List (List ℕ)) (name : List ℕ) → AllByRecursion (λ other. other ≢ name) names → list_any (bytes_eq name) names ≡ false
+none_same [] name absent = refl
+none_same (first ∷ names) name absent =
+    ap (λ test. test || list_any (bytes_eq name) names) (bytes_eq-other name first (λ same. absent.0 (sym same))) ∙ none_same names name absent.1
+
+-- names that differ, and behind them one that is none of them
+pub NamesDiffer-push : (names : List (List ℕ)) (name : List ℕ) → NamesDiffer names → AllByRecursion (λ other. other ≢ name) names → NamesDiffer (names ++ name ∷ [])
+NamesDiffer-push [] name differ absent = (tt, tt)
+NamesDiffer-push (first ∷ names) name differ absent =
+    (all_push (λ other. other ≢ first) names name differ.0 (λ same. absent.0 (sym same)), NamesDiffer-push names name differ.1 absent.1)
+
+-- the names behind a name that got a number, and its place there
+pub numbered : (old new : List (List ℕ)) (name : List ℕ) (x : VarId) → NamesDiffer old → Numbers old new name x
+    → (new ≡ with_name old name) × NamesDiffer new × (slice_get new x.0 ≡ Some name)
+numbered old new name x differ (inl (same, at)) =
+    let known = any_passes_from_place (bytes_eq name) old x.0 name at ((bytes_eq-Decides name name).1 refl) in
+    let P : List (List ℕ) → Type 0 = NamesDiffer in (
+      same ∙ ap (λ test. cond test old (old ++ name ∷ [])) (sym known),
+      subst P (sym same) differ,
+      ap (λ names. slice_get names x.0) same ∙ at,
+    )
+numbered old new name x differ (inr (absent, put, place)) =
+    let P : List (List ℕ) → Type 0 = NamesDiffer in (
+      put ∙ ap (λ test. cond test old (old ++ name ∷ [])) (sym (none_same old name absent)),
+      subst P (sym put) (NamesDiffer-push old name differ absent),
+      ap (λ names. slice_get names x.0) put ∙ ap (λ n. slice_get (old ++ name ∷ []) n) place ∙ slice_get-last old name,
+    )
+
+chosen_front : (names : List (List ℕ)) (name : List ℕ) (test : Bool) → (more : List (List ℕ)) × (cond test names (names ++ name ∷ []) ≡ names ++ more)
+chosen_front names name true = ([], sym (append-nil names))
+chosen_front names name false = (name ∷ [], refl)
+
+-- names are only put behind
+with_names-front : (names others : List (List ℕ)) → (more : List (List ℕ)) × (with_names names others ≡ names ++ more)
+with_names-front names [] = ([], sym (append-nil names))
+with_names-front names (name ∷ others) =
+    let first = chosen_front names name (list_any (bytes_eq name) names) in
+    let next = with_names-front (with_name names name) others in
+    (first.0 ++ next.0, next.1 ∙ ap (λ zs. zs ++ next.0) first.1 ∙ append_assoc names first.0 next.0)
+
+-- a number doesn't change when names are put behind
+pub number_kept : (names : List (List ℕ)) (name : List ℕ) (x : VarId) → NamesDiffer names → slice_get names x.0 ≡ Some name
+    → (more : List (List ℕ)) → x ≡ number_of (with_names names more) name
+number_kept names name x differ at more =
+    let front = with_names-front names more in
+    let place : x.0 ≡ position_or_len (bytes_eq name) (with_names names more) =
+    first_place names front.0 name x.0 differ at ∙ ap (position_or_len (bytes_eq name)) (sym front.1) in
+    let made : ℕ → VarId = λ n. record { 0 = n } in
+    ap made place
+
+-- the names differ as before, with a number or without memory for one
+pub differ_after : {E : Type 0} (result : Result VarId E) (old new : List (List ℕ)) (name : List ℕ) → NamesDiffer old
+    → IfOk result (λ x. Numbers old new name x) → OnErr result (new ≡ old) → NamesDiffer new
+differ_after (Ok x) old new name differ ok err = (numbered old new name x differ ok).1
+differ_after (Err e) old new name differ ok err = let P : List (List ℕ) → Type 0 = NamesDiffer in subst P (sym err) differ
+
+tested_new : (old new : List (List ℕ)) (name : List ℕ) (x : VarId) (test : Bool) → nat_eq x.0 (length old) ≡ test → Numbers old new name x
+    → (IsTrue test ↔ AllByRecursion (λ other. other ≢ name) old) × OnTrue test (new ≡ old ++ name ∷ [])
+tested_new old new name x true is (inl (same, at)) =
+    let within = slice_get_within old x.0 name at in
+    let place = (Decides-eqb x.0 (length old)).0 is in absurd (omega arith)
+tested_new old new name x true is (inr (absent, put, place)) = ((λ _. absent, λ _. refl), put)
+tested_new old new name x false is (inl (same, at)) =
+    ((λ wrong. absurd (false≢true wrong), λ absent. absurd (all_at (λ other. other ≢ name) old x.0 name absent at refl)), tt)
+tested_new old new name x false is (inr (absent, put, place)) =
+    absurd (false≢true (sym is ∙ (Decides-eqb x.0 (length old)).1 place))
+
+-- the name is new where its number is how many there were
+pub new_at_count : (old new : List (List ℕ)) (name : List ℕ) (x : VarId) (count : ℕ) → count ≡ length old → Numbers old new name x
+    → (IsTrue (nat_eq x.0 count) ↔ AllByRecursion (λ other. other ≢ name) old) × OnTrue (nat_eq x.0 count) (new ≡ old ++ name ∷ [])
+new_at_count old new name x count is numbers =
+    subst (λ n. (IsTrue (nat_eq x.0 n) ↔ AllByRecursion (λ other. other ≢ name) old) × OnTrue (nat_eq x.0 n) (new ≡ old ++ name ∷ [])) (sym is)
+    (tested_new old new name x _ refl numbers)
+
+-- some mentions, and others behind them
+pub with_names-append : (names first next : List (List ℕ)) → with_names (with_names names first) next ≡ with_names names (first ++ next)
+with_names-append names [] next = refl
+with_names-append names (name ∷ first) next = with_names-append (with_name names name) first next
+
+-- what is made by the names, whatever is put behind, is so made by the names behind further mentions too
+pub made_later : {A : Type 0} (of : List (List ℕ) → A) (before after mentions : List (List ℕ)) (value : A) → after ≡ with_names before mentions
+    → ((more : List (List ℕ)) → value ≡ of (with_names before more)) → (more : List (List ℕ)) → value ≡ of (with_names after more)
+made_later of before after mentions value is made more =
+    made (mentions ++ more) ∙ ap of (sym (ap (λ names. with_names names more) is ∙ with_names-append before mentions more))
+
+-- where no two things have the same name, none before one has its name
+pub named_before : {N : Type 0} (named : N → List ℕ) (things : List N) (place : ℕ) (thing : N) → NamesDiffer (map named things) → slice_get things place ≡ Some thing
+    → AllByRecursion (λ other. other ≢ named thing) (map named (take place things))
+named_before named [] zero thing differ at = tt
+named_before named [] (suc place) thing differ at = absurd (cc)
+named_before named (first ∷ things) zero thing differ at = tt
+named_before named (first ∷ things) (suc place) thing differ at =
+    let there : slice_get (map named things) place ≡ Some (named thing) = slice_get-map named things place ∙ ap (option_map named) at in
+    (λ same. all_at (λ other. other ≢ named first) (map named things) place (named thing) differ.0 there (sym same), named_before named things place thing differ.1 at)
+
+-- where no two things have the same name, the name of each is new
+pub new_named : {N : Type 0} (named : N → List ℕ) (things : List N) (place : ℕ) (thing : N) (seen : List (List ℕ)) (test : Bool)
+    → seen ≡ map named (take place things) → place < length things → thing ≡ get_or things place thing
+    → (IsTrue test ↔ AllByRecursion (λ other. other ≢ named thing) seen) → NamesDiffer (map named things) → test ≡ true
+new_named named things place thing seen test seen_are within is whether differ =
+    let P : List (List ℕ) → Type 0 = λ names. AllByRecursion (λ other. other ≢ named thing) names in
+    whether.1 (subst P (sym seen_are) (named_before named things place thing differ (slice_get_read things _ place thing refl within is)))
+
+-- where no two things have the same name, one name stands at one place
+pub named_once : {N : Type 0} (named : N → List ℕ) (things : List N) (name : List ℕ) (i j : ℕ) (one other : N) → NamesDiffer (map named things)
+    → slice_get things i ≡ Some one → slice_get things j ≡ Some other → named one ≡ name → named other ≡ name → i ≡ j
+named_once named things name i j one other differ at_i at_j one_is other_is =
+    let i_is = first_place (map named things) [] name i differ (slice_get-map named things i ∙ ap (option_map named) at_i ∙ ap Some one_is) in
+    let j_is = first_place (map named things) [] name j differ (slice_get-map named things j ∙ ap (option_map named) at_j ∙ ap Some other_is) in
+    i_is ∙ sym j_is
+
+-- the names so far differ, and so they do with one that is new
+pub named_more : {N : Type 0} (named : N → List ℕ) (front : List N) (thing : N) (seen after : List (List ℕ)) → NamesDiffer (map named front) → seen ≡ map named front
+    → AllByRecursion (λ other. other ≢ named thing) seen → after ≡ seen ++ named thing ∷ []
+    → NamesDiffer (map named (front ++ thing ∷ [])) × (after ≡ map named (front ++ thing ∷ []))
+named_more named front thing seen after differ is absent put =
+    let P : List (List ℕ) → Type 0 = NamesDiffer in
+    let Q : List (List ℕ) → Type 0 = λ names. AllByRecursion (λ other. other ≢ named thing) names in
+    let pushed : map named (front ++ thing ∷ []) ≡ map named front ++ named thing ∷ [] = map-append named front (thing ∷ []) in
+    (subst P (sym pushed) (NamesDiffer-push (map named front) (named thing) differ (subst Q is absent)), put ∙ ap (λ names. names ++ named thing ∷ []) is ∙ sym pushed)

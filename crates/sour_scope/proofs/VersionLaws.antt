@@ -1,0 +1,33 @@
+-- The versions so far, and the body of one.
+use Rattle.std.proofs.Common.{◌≡◌, ℕ, List, [], length, map, ap, ◌∙◌}
+use Rattle.std.specs.List.{AllByRecursion}
+use Rattle.sour_syntax.specs.declared.literal.FunId.{FunId}
+use Rattle.sour_syntax.specs.declared.instruction.Line.{Line}
+use Rattle.sour_syntax.specs.BodyView.{BodyView}
+use Rattle.sour_reader.specs.declared.raw.RawLine.{RawLine}
+use Rattle.sour_reader.specs.Mentions.{with_names, with_lines, variables_of}
+use Rattle.sour_syntax.specs.declared.program.Version.{Version}
+use Rattle.sour_reader.specs.declared.raw.RawVersion.{RawVersion}
+use Rattle.sour_scope.specs.Numbered.{lines_of, body_of, version_of}
+use Rattle.sour_scope.specs.Checked.{NamesDiffer, IsAcceptedVersion}
+
+abbrev pub version_name : RawVersion → List ℕ
+version_name version = version.name
+
+-- these versions are accepted, their names differ, and this is what is made of them
+pub record VersionsSoFar (function : ℕ) (parameters : List (List ℕ)) (front : List RawVersion) (seen : List (List ℕ)) (versions : List Version) : Type 0 where
+  pub seen_are : seen ≡ map version_name front
+  pub versions_are : versions ≡ map (version_of function parameters) front
+  pub differ : NamesDiffer (map version_name front)
+  pub accepted : AllByRecursion (IsAcceptedVersion function parameters) front
+
+-- the body that is made of the parts
+pub body_is : (function : FunId) (parameters start names variables : List (List ℕ)) (raw slice : List RawLine) (count : ℕ) (lines : List Line)
+    → count ≡ length parameters → start ≡ with_names [] parameters → slice ≡ raw → names ≡ with_lines start slice → variables ≡ names → lines ≡ lines_of names 0 slice
+    → record { function = function; parameters = count; variables = variables; lines = lines } ≡ body_of function.0 parameters raw
+body_is function parameters start names variables raw slice count lines count_is start_is slice_is names_are variables_are lines_are =
+    let made : ℕ → List (List ℕ) → List Line → BodyView = λ n v l. record { function = function; parameters = n; variables = v; lines = l } in
+    let all : List (List ℕ) = variables_of parameters raw in
+    let names_all : names ≡ all = names_are ∙ ap (λ zs. with_lines zs slice) start_is ∙ ap (with_lines (with_names [] parameters)) slice_is in
+    ap (λ n. made n variables lines) count_is ∙ ap (λ v. made (length parameters) v lines) (variables_are ∙ names_all)
+    ∙ ap (made (length parameters) all) (lines_are ∙ ap (λ v. lines_of v 0 slice) names_all ∙ ap (lines_of all 0) slice_is)

@@ -1,0 +1,23 @@
+//! The check of names and scopes: it takes a text with names as they are written, and gives the program
+//! that it means, where it means one.
+//!
+//! A text is accepted where no two functions, no two versions of one function, no two parameters of one
+//! function and no two labels of one version have the same name; each label that an instruction goes to
+//! is there; the last instruction of each version is `return`, `stop`, `goto` or `branch`; each variable
+//! is in scope where it is used, and isn't where it is declared, with one scope for each label whatever
+//! path leads to it; and there is a function `main`, without parameters.
+#![tactic(auto)]
+
+mod expressions;
+mod fault;
+mod functions;
+mod inputs;
+mod instructions;
+mod job;
+mod lines;
+mod main_function;
+mod names;
+mod versions;
+
+pub use fault::ScopeFault;
+pub use job::check;

@@ -1,0 +1,82 @@
+//! The versions of a function.
+
+ghost use Rattle.std.specs.Prelude.{◌≡◌, ◌≤◌, List as Listed, [], length, map, IfOk, IfSome, IfNone, OnSome};
+ghost use Rattle.std.specs.List.{AllByRecursion};
+ghost use Rattle.sour_reader.specs.declared.raw.RawVersion.{RawVersion};
+ghost use Rattle.sour_reader.specs.Mentions.{with_names};
+ghost use Rattle.sour_reader.specs.Limits.{IsShortVersion};
+ghost use Rattle.sour_scope.specs.Numbered.{version_of};
+ghost use Rattle.sour_scope.specs.Checked.{NamesDiffer, IsAcceptedVersion};
+
+use crate::lines::lines_of;
+use crate::names::{DistinctNames, copy_of};
+use sour_reader::RawVersion;
+use sour_syntax::{Body, FunId, Label, List, Version};
+use std::alloc::{AllocError, Global};
+
+/// The variables with which a version begins: the parameters.
+fn first_variables(alloc: Global, parameters: &[Label]) -> Result<DistinctNames, AllocError>
+    requires { length parameters.now ≤ 255 }
+    ensures names { IfOk result (λ names. names ≡ with_names [] parameters.now) }
+    ensures few { IfOk result (λ names. length names ≤ 255) }
+{
+    let mut names = DistinctNames::new(alloc);
+    for parameter in parameters {
+        names.number(alloc, parameter)?;
+    }
+    Ok(names)
+}
+
+/// A version of a function, where it is accepted; `None` exactly where it isn't.
+fn version_of(
+    alloc: Global,
+    function: FunId,
+    parameters: &[Label],
+    raw: &RawVersion,
+) -> Result<Option<Version>, AllocError>
+    requires few { length parameters.now ≤ 255 }
+    requires short { IsShortVersion parameters.now raw.now }
+    ensures some { IfOk result (λ found. IfSome found (λ version. version ≡ version_of function.0 parameters.now raw.now)) }
+    ensures accepted { IfOk result (λ found. OnSome found (IsAcceptedVersion function.0 parameters.now raw.now)) }
+    ensures none { IfOk result (λ found. IfNone found (IsAcceptedVersion function.0 parameters.now raw.now → ⊥)) }
+{
+    let mut variables = first_variables(alloc, parameters)?;
+    let lines = lines_of(alloc, raw.lines.as_slice(), &mut variables)?;
+    let count = parameters.len() as u32;
+    let Some(body) = Body::checked(alloc, function, count, variables.into_names(), lines)? else {
+        return Ok(None);
+    };
+    let name = copy_of(alloc, &raw.name)?;
+    Ok(Some(Version { name, body }))
+}
+
+/// The versions of a function, where each is accepted and no two have the same name; `None` exactly
+/// where not.
+pub(crate) fn versions_of(
+    alloc: Global,
+    function: FunId,
+    parameters: &[Label],
+    raw: &[RawVersion],
+) -> Result<Option<List<Version>>, AllocError>
+    requires few { length parameters.now ≤ 255 }
+    requires count { length raw.now ≤ 16 }
+    requires short { AllByRecursion (IsShortVersion parameters.now) raw.now }
+    ensures some { IfOk result (λ found. IfSome found (λ versions. versions ≡ map (version_of function.0 parameters.now) raw.now)) }
+    ensures differ { IfOk result (λ found. OnSome found (NamesDiffer (map (λ (version : RawVersion). version.name) raw.now))) }
+    ensures accepted { IfOk result (λ found. OnSome found (AllByRecursion (IsAcceptedVersion function.0 parameters.now) raw.now)) }
+    ensures none { IfOk result (λ found. IfNone found (NamesDiffer (map (λ (version : RawVersion). version.name) raw.now)
+        → AllByRecursion (IsAcceptedVersion function.0 parameters.now) raw.now → ⊥)) }
+{
+    let mut seen = DistinctNames::new(alloc);
+    let mut versions = List::new(alloc);
+    for version in raw {
+        if !seen.add(alloc, &version.name)? {
+            return Ok(None);
+        }
+        let Some(version) = version_of(alloc, function, parameters, version)? else {
+            return Ok(None);
+        };
+        versions.push(version)?;
+    }
+    Ok(Some(versions))
+}

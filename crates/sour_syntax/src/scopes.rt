@@ -1,0 +1,94 @@
+//! What an instruction does to the variables in scope.
+
+ghost use Rattle.std.specs.Prelude.{◌≡◌, ◌<◌, ◌↔◌, Bool, IsTrue, true, false, slice_set};
+ghost use Rattle.std.specs.List.{AllByRecursion};
+ghost use Rattle.sour_syntax.specs.Scopes.{simple_variables, variables_of_expr, mentioned, scope_after, IsInScope, IsOutOfScope, IsFine};
+
+use crate::expression::{Expr, Simple};
+use crate::instruction::Instr;
+use crate::literal::VarId;
+
+/// Whether a variable is in scope.
+fn is_in_scope(x: VarId, scope: &[bool]) -> bool
+    ensures { IsTrue result ↔ IsInScope scope.now x }
+{
+    match scope.get(x.0 as usize) {
+        Some(is_in) => *is_in,
+        None => false,
+    }
+}
+
+/// Whether a variable isn't in scope.
+fn is_out_of_scope(x: VarId, scope: &[bool]) -> bool
+    ensures { IsTrue result ↔ IsOutOfScope scope.now x }
+{
+    match scope.get(x.0 as usize) {
+        Some(is_in) => !*is_in,
+        None => false,
+    }
+}
+
+/// Whether the variables of an operand are in scope.
+fn has_operand(operand: Simple, scope: &[bool]) -> bool
+    ensures { IsTrue result ↔ AllByRecursion (IsInScope scope.now) (simple_variables operand) }
+{
+    match operand {
+        Simple::Lit(_) => true,
+        Simple::Var(x) => is_in_scope(x, scope),
+    }
+}
+
+/// Whether the variables of an expression are in scope.
+fn has_variables(e: Expr, scope: &[bool]) -> bool
+    ensures { IsTrue result ↔ AllByRecursion (IsInScope scope.now) (variables_of_expr e) }
+{
+    match e {
+        Expr::Plain(a) => has_operand(a, scope),
+        Expr::Not(a) => has_operand(a, scope),
+        Expr::Binary(_, a, b) => has_operand(a, scope) && has_operand(b, scope),
+    }
+}
+
+/// Whether an instruction may stand where this is the scope.
+pub(crate) fn is_fine(instr: &Instr, scope: &[bool]) -> bool
+    ensures { IsTrue result ↔ IsFine instr.now scope.now }
+{
+    match instr {
+        Instr::Var(x, e) => is_out_of_scope(*x, scope) && has_variables(*e, scope),
+        Instr::Drop(x) => is_in_scope(*x, scope),
+        Instr::Assign(x, e) => is_in_scope(*x, scope) && has_variables(*e, scope),
+        Instr::Print(e) => has_variables(*e, scope),
+        Instr::Read(_) => true,
+        Instr::Branch(e, _, _) => has_variables(*e, scope),
+        Instr::Goto(_) => true,
+        Instr::Return(e) => has_variables(*e, scope),
+        Instr::Stop => true,
+    }
+}
+
+/// Puts a variable into the scope, or takes it out.
+fn put(x: VarId, is_in: bool, scope: &mut Vec<bool>)
+    ensures { scope.new.items ≡ slice_set scope.old.items x.0 is_in }
+{
+    let place = x.0 as usize;
+    if place < scope.len() {
+        scope[place] = is_in;
+    }
+}
+
+/// The scope behind an instruction.
+pub(crate) fn pass(instr: &Instr, scope: &mut Vec<bool>)
+    ensures { scope.new.items ≡ scope_after instr.now scope.old.items }
+{
+    match instr {
+        Instr::Var(x, _) => put(*x, true, scope),
+        Instr::Drop(x) => put(*x, false, scope),
+        Instr::Read(x) => put(*x, true, scope),
+        Instr::Assign(_, _) => (),
+        Instr::Print(_) => (),
+        Instr::Branch(_, _, _) => (),
+        Instr::Goto(_) => (),
+        Instr::Return(_) => (),
+        Instr::Stop => (),
+    }
+}

@@ -1,0 +1,21 @@
+use Rattle.std.proofs.Common.{◌≤◌, refl, inl, inr, arith}
+use Rattle.sourir.specs.Answer.{unknown_words}
+use Rattle.sourir.proofs.WordLemmas.{asked-within, none-some}
+use Rattle.sourir.proofs.program.sourir.Goals as goal
+
+pub command_run-requires : goal.command_run-requires
+command_run-requires g c = asked-within _ c.in-Some.budget ((c.in-Some.ensures c.in-Some.budget).1 refl)
+
+pub returns-in-Some : goal.returns-in-Some
+returns-in-Some g c = record {
+  answer = c.command_run.ensures.answer;
+  due = inl (c.in-Some.budget, (c.in-Some.ensures c.in-Some.budget).1 refl, c.command_run.ensures.due);
+  given = c.command_run.ensures.given;
+}
+
+pub returns-in-None : goal.returns-in-None
+returns-in-None g c = record {
+  answer = unknown_words;
+  due = inr (λ budget asks. none-some budget ((c.in-None.ensures budget).0 asks), refl);
+  given = c.write_fault.ensures;
+}
