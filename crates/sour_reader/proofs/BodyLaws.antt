@@ -118,9 +118,9 @@ body_many_names parameters start old new front names more line so_far goes_on sp
     let read = so_far_more (OneLine SpellsLine) EndVersion start old new front line so_far.read (next_goes_on BeginsVersionOrEnd old goes_on) (line_reads SpellsLine old new line spells passes) in
     let others = so_far_front (OneLine SpellsLine) EndVersion start new (front ++ line ∷ []) read body lines after left each in
     let all : with_lines (with_names [] parameters) body ≡ with_lines (with_lines (with_names [] parameters) (front ++ line ∷ [])) others.0 =
-        ap (with_lines (with_names [] parameters)) others.1 ∙ with_lines_append (with_names [] parameters) (front ++ line ∷ []) others.0 in
+    ap (with_lines (with_names [] parameters)) others.1 ∙ with_lines_append (with_names [] parameters) (front ++ line ∷ []) others.0 in
     let here : more ≡ with_lines (with_names [] parameters) (front ++ line ∷ []) =
-        are ∙ ap (λ it. with_names it (instr_names line.instr)) so_far.names_are ∙ sym (with_lines_append (with_names [] parameters) front (line ∷ [])) in
+    are ∙ ap (λ it. with_names it (instr_names line.instr)) so_far.names_are ∙ sym (with_lines_append (with_names [] parameters) front (line ∷ [])) in
     let grown = with_lines_length (with_lines (with_names [] parameters) (front ++ line ∷ [])) others.0 in
     omega (arith, ap length all, ap length here, short.1, grown)
 

@@ -65,7 +65,7 @@ versions_from parameters [] front after is short ended = subst (λ it. EachUpTo 
 versions_from parameters (version ∷ versions) front after (one, rest, is, spelled, more) short ended = (
   rest ++ after,
   subst (λ it. HasVersion parameters version it (rest ++ after)) (sym (ap (λ it. it ++ after) is ∙ append_assoc one rest after))
-  (version_from parameters version one (rest ++ after) spelled short.0 (versions_end versions rest after more ended)),
+      (version_from parameters version one (rest ++ after) spelled short.0 (versions_end versions rest after more ended)),
   versions_from parameters versions rest after more short.1 ended,
 )
 

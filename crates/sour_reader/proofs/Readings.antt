@@ -203,9 +203,11 @@ next_each {X} P E old new x goes_on reads after xs = (to, from)
 
 -- one more
 pub so_far_more : {X : Type 0} (P : X → Lines → Lines → Type 0) (E : Lines → Type 0) (start old new : AheadView) (front : List X) (x : X) → ReadSoFar X P E start old front → GoesOn E old → ReadsAs P old new x → ReadSoFar X P E start new (front ++ x ∷ [])
-so_far_more P E start old new front x so_far goes_on reads = record { exact = λ after. reads_on_more
-    (λ xs. (lines : Lines) × AreLeft start lines × EachUpTo P E xs lines after) (λ xs. (lines : Lines) × AreLeft old lines × EachUpTo P E xs lines after) (λ xs. (lines : Lines) × AreLeft new lines × EachUpTo P E xs lines after)
-    front x (so_far.exact after) (next_each P E old new x goes_on reads after) }
+so_far_more P E start old new front x so_far goes_on reads = record {
+  exact = λ after. reads_on_more
+      (λ xs. (lines : Lines) × AreLeft start lines × EachUpTo P E xs lines after) (λ xs. (lines : Lines) × AreLeft old lines × EachUpTo P E xs lines after) (λ xs. (lines : Lines) × AreLeft new lines × EachUpTo P E xs lines after)
+      front x (so_far.exact after) (next_each P E old new x goes_on reads after);
+}
 
 no_more : {X : Type 0} (P : X → Lines → Lines → Type 0) (E : Lines → Type 0) (now : AheadView) → ((lines : Lines) → AreLeft now lines → E lines) → ((x : X) (lines after : Lines) → E lines → P x lines after → ⊥)
     → (after : Lines) (xs : List X) → ((lines : Lines) × AreLeft now lines × EachUpTo P E xs lines after) ↔ ((xs ≡ []) × AreLeft now after)
@@ -223,7 +225,7 @@ pub so_far_end : {X : Type 0} (P : X → Lines → Lines → Type 0) (E : Lines 
     → ReadsAs (EachUpTo P E) start now front
 so_far_end P E start now front so_far ended border xs after =
     let all = reads_on_end (λ ys. (lines : Lines) × AreLeft start lines × EachUpTo P E ys lines after) (λ ys. (lines : Lines) × AreLeft now lines × EachUpTo P E ys lines after) (AreLeft now after) front []
-        (so_far.exact after) (no_more P E now ended border after) xs in
+    (so_far.exact after) (no_more P E now ended border after) xs in
     ((λ it. let r = all.0 it in (r.0 ∙ append-nil front, r.1)), λ (is, left). all.1 (is ∙ sym (append-nil front), left))
 
 -- where one more should come and none does

@@ -22,3 +22,6 @@ pub fn read_job(alloc: Global, bytes: &[u8]) -> Result<RawJob, TextFault>
     let inputs = read_inputs(alloc, &mut ahead)?;
     Ok(RawJob { functions, inputs })
 }
+
+#[cfg(test)]
+mod tests;

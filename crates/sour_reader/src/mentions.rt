@@ -81,10 +81,7 @@ pub(crate) fn add_instr(
 }
 
 /// The names of parameters.
-pub(crate) fn parameter_names(
-    alloc: Global,
-    parameters: &List<Label>,
-) -> Result<Names, AllocError>
+pub(crate) fn parameter_names(alloc: Global, parameters: &List<Label>) -> Result<Names, AllocError>
     requires { length parameters.now < 2 ^ 32 }
     ensures { IfOk result (λ names. names ≡ with_names [] parameters.now) }
 {

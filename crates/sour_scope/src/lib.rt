@@ -21,3 +21,6 @@ mod versions;
 
 pub use fault::ScopeFault;
 pub use job::check;
+
+#[cfg(test)]
+mod tests;
