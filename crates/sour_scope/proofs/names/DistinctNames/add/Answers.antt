@@ -8,12 +8,12 @@ invariant_of-self c = differ_after c.add.result _ _ _ c.self.invariant c.add.ens
 pub returns-clause-whether : goal.returns-clause-whether
 returns-clause-whether c =
     rw (sym c.self.view_is, sym (c.in_ok-copy.ensures.items ∙ c.as_bytes.ensures))
-    (new_at_count _ _ _ c.in_ok-number.number c.len-count.result c.len-count.ensures c.in_ok-number.ensures.ok).0
+    (new_at_count _ _ _ c.in_ok-number.number c.len-count.result c.len-count.ensures.value c.in_ok-number.ensures.ok).0
 
 pub returns-clause-put : goal.returns-clause-put
 returns-clause-put c =
     rw (sym c.self.view_is, sym (c.in_ok-copy.ensures.items ∙ c.as_bytes.ensures))
-    (new_at_count _ _ _ c.in_ok-number.number c.len-count.result c.len-count.ensures c.in_ok-number.ensures.ok).1
+    (new_at_count _ _ _ c.in_ok-number.number c.len-count.result c.len-count.ensures.value c.in_ok-number.ensures.ok).1
 
 pub invariant_of-self-2 : goal.invariant_of-self-2
 invariant_of-self-2 c = (numbered _ _ _ c.in_ok-number.number c.self.invariant c.in_ok-number.ensures.ok).1
