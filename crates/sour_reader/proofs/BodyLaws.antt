@@ -1,5 +1,5 @@
 -- How the lines of a version and the versions of a function are read.
-use Rattle.std.proofs.Common.{◌≡◌, ◌≢◌, ◌↔◌, ◌⊎◌, ℕ, ◌+◌, ◌<◌, ◌≤◌, Bool, true, false, List, [], ◌∷◌, ◌++◌, length, length-append, Option, None, Some, refl, sym, ap, ◌∙◌, subst, inl, inr, arith}
+use Rattle.std.proofs.Common.{◌≡◌, ◌↔◌, ◌⊎◌, ℕ, ◌<◌, ◌≤◌, Bool, true, false, List, [], ◌∷◌, ◌++◌, length, length-append, Option, None, Some, refl, sym, ap, ◌∙◌, subst, inl, inr, arith}
 use Rattle.std.specs.Prelude.{codes, IsTrue}
 use Rattle.std.specs.Str.{bytes_eq}
 use Rattle.std.proofs.lemmas.Bool.{false≢true}
@@ -7,13 +7,13 @@ use Rattle.sour_reader.specs.declared.raw.RawInstr.{RawInstr}
 use Rattle.sour_reader.specs.declared.raw.RawInstr.TheVariants.{Var, Drop, Assign, Print, Read, Branch, Goto, Return, Stop}
 use Rattle.sour_reader.specs.declared.raw.RawLine.{RawLine}
 use Rattle.sour_reader.specs.declared.raw.RawVersion.{RawVersion}
-use Rattle.sour_reader.specs.Name.{IsName, is_reserved}
+use Rattle.sour_reader.specs.Name.{is_reserved}
 use Rattle.sour_reader.specs.Mentions.{instr_names, with_names, with_lines}
 use Rattle.sour_reader.specs.Instruction.{SpellsInstr, SpellsLabelled, SpellsLine}
 use Rattle.sour_reader.specs.Job.{version_heading, function_end}
 use Rattle.sour_reader.specs.Ahead.{AheadView, AreLeft, ReadsAs, ReadsAsNone, OneLine, EachUpTo}
-use Rattle.sour_reader.specs.Front.{BeginsVersionOrEnd, NextIs, EndVersion, AreShort, HasBody, IsVersionHeading, HasVersion, IsFunctionEnd, EndFunction, AreSome, HasVersions}
-use Rattle.sour_reader.proofs.Readings.{next_is, left_some, Passes, GoesOn, ReadSoFar, line_reads, line_reads_none, no_line_reads, reads_with, reads_none_with, reads_both, reads_none_first, reads_none_second, so_far_none, so_far_more, so_far_end, so_far_nowhere, so_far_longer, so_far_front}
+use Rattle.sour_reader.specs.Front.{BeginsVersionOrEnd, NextIs, EndVersion, AreShort, HasBody, IsVersionHeading, HasVersion, EndFunction, AreSome}
+use Rattle.sour_reader.proofs.Readings.{next_is, left_some, Passes, GoesOn, ReadSoFar, line_reads, reads_with, reads_none_with, reads_both, so_far_none, so_far_more, so_far_end, so_far_nowhere, so_far_longer, so_far_front}
 use Rattle.sour_reader.proofs.Operands.{apart, no_reserved}
 use Rattle.sour_reader.proofs.MentionLaws.{with_names_length, with_lines_append, with_lines_length}
 

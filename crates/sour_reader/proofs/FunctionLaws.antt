@@ -1,12 +1,11 @@
 -- How the functions of a text are read.
-use Rattle.std.proofs.Common.{◌≡◌, ◌↔◌, ℕ, ◌≤◌, List, [], ◌∷◌, refl, sym, ap, ◌∙◌, subst}
+use Rattle.std.proofs.Common.{◌≡◌, ℕ, List, [], ◌∷◌, refl, sym, ◌∙◌}
 use Rattle.std.specs.Prelude.{codes}
 use Rattle.sour_reader.specs.declared.raw.RawVersion.{RawVersion}
 use Rattle.sour_reader.specs.declared.raw.RawFunction.{RawFunction}
 use Rattle.sour_reader.specs.declared.heading.FunctionHeading.{FunctionHeading}
 use Rattle.sour_reader.specs.Job.{function_end}
-use Rattle.sour_reader.specs.Inputs.{inputs_heading}
-use Rattle.sour_reader.specs.Ahead.{AheadView, FollowNext, AreLeft, ReadsAs, ReadsAsNone, OneLine, EachUpTo}
+use Rattle.sour_reader.specs.Ahead.{AheadView, FollowNext, AreLeft, ReadsAs, ReadsAsNone, OneLine}
 use Rattle.sour_reader.specs.Front.{HasVersions, IsFunctionHeading, heading_of, HasFunction, AreBehindFunctions, EndFunctions}
 use Rattle.sour_reader.proofs.Readings.{Passes, GoesOn, reads_both, reads_none_first, reads_none_second, reads_before, reads_none_before}
 use Rattle.sour_reader.proofs.BodyLaws.{first_is}

@@ -1,14 +1,11 @@
 -- How the parameters of a function are listed.
-use Rattle.std.proofs.Common.{◌≡◌, ◌↔◌, ℕ, ◌+◌, ◌<◌, ◌≤◌, Bool, true, false, List, [], ◌∷◌, ◌++◌, length, length-append, Option, None, Some, refl, sym, ap, ◌∙◌, subst, arith}
+use Rattle.std.proofs.Common.{◌≡◌, ◌↔◌, ℕ, ◌<◌, ◌≤◌, List, [], ◌∷◌, ◌++◌, length, length-append, Option, None, Some, refl, sym, ap, ◌∙◌, subst, arith}
 use Rattle.std.specs.Prelude.{codes}
-use Rattle.std.specs.List.{AllByRecursion}
-use Rattle.sour_reader.specs.declared.heading.FunctionHeading.{FunctionHeading}
 use Rattle.sour_reader.specs.Name.{IsName}
-use Rattle.sour_reader.specs.Job.{parameters_spelling}
-use Rattle.sour_reader.specs.Front.{ListsSome, ListsParameters, IsFunctionHeading}
+use Rattle.sour_reader.specs.Front.{ListsSome, ListsParameters}
 use Rattle.sour_reader.proofs.BodyLaws.{first_is}
 use Rattle.sour_reader.proofs.Operands.{apart}
-use Rattle.sour_reader.proofs.Prefixes.{ReadsOn, reads_on_none, reads_on_more, reads_on_end}
+use Rattle.sour_reader.proofs.Prefixes.{ReadsOn, reads_on_more, reads_on_end}
 
 others_are : (a b : List ℕ) (xs ys : List (List ℕ)) → a ∷ xs ≡ b ∷ ys → xs ≡ ys
 others_are a b xs ys is = cc

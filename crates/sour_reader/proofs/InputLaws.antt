@@ -1,10 +1,10 @@
 -- How the inputs of a text are read.
-use Rattle.std.proofs.Common.{◌≡◌, ◌≢◌, ◌↔◌, ℕ, ◌<◌, ◌≤◌, List, [], ◌∷◌, length, refl, sym, ap, subst, ◌∙◌, arith}
+use Rattle.std.proofs.Common.{◌≡◌, ℕ, ◌≤◌, List, [], ◌∷◌, length, refl, sym, subst, ◌∙◌, arith}
 use Rattle.sour_reader.specs.declared.raw.RawInput.{RawInput}
 use Rattle.sour_reader.specs.Inputs.{inputs_heading}
 use Rattle.sour_reader.specs.Ahead.{AheadView, AreLeft, ReadsAs, ReadsAsNone, OneLine, EachUpTo}
 use Rattle.sour_reader.specs.Front.{IsInput, EndText, HasEachInput, HasInputs}
-use Rattle.sour_reader.proofs.Readings.{next_is, left_at_end, left_some, Passes, GoesOn, ReadSoFar, line_reads, reads_with, so_far_none, so_far_more, so_far_end, so_far_nowhere, so_far_longer}
+use Rattle.sour_reader.proofs.Readings.{left_at_end, left_some, Passes, GoesOn, ReadSoFar, reads_with, so_far_end, so_far_nowhere, so_far_longer}
 
 abbrev Lines : Type 0
 Lines = List (List (List ℕ))

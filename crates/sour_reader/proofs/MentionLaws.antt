@@ -1,5 +1,5 @@
 -- How the variables of a version grow, name by name.
-use Rattle.std.proofs.Common.{◌≡◌, ◌≢◌, ◌⊎◌, ℕ, zero, suc, ◌+◌, ◌≤◌, Bool, true, false, ◌||◌, List, [], ◌∷◌, ◌++◌, take, length, length-append, Some, refl, sym, ap, ◌∙◌, inl, inr, get_or, ◌<◌, arith}
+use Rattle.std.proofs.Common.{◌≡◌, ◌≢◌, ℕ, zero, suc, ◌+◌, ◌≤◌, Bool, true, false, ◌||◌, List, [], ◌∷◌, ◌++◌, take, length, length-append, Some, refl, sym, ap, ◌∙◌, inl, inr, get_or, ◌<◌, arith}
 use Rattle.std.proofs.lemmas.List.{take_more, length-take}
 use Rattle.std.specs.Prelude.{slice_get, cond}
 use Rattle.std.specs.List.{AllByRecursion, list_any}
@@ -8,7 +8,7 @@ use Rattle.std.proofs.lemmas.Slice.Eq.{bytes_eq-Decides}
 use Rattle.sour_syntax.specs.declared.literal.VarId.{VarId}
 use Rattle.sour_syntax.specs.Names.{Numbers}
 use Rattle.sour_reader.specs.declared.raw.RawLine.{RawLine}
-use Rattle.sour_reader.specs.Mentions.{instr_names, with_name, with_names, with_lines, variables_of}
+use Rattle.sour_reader.specs.Mentions.{instr_names, with_name, with_names, with_lines}
 
 any_first : (test any : Bool) → test ≡ true → (test || any) ≡ true
 any_first test any is = rw is refl

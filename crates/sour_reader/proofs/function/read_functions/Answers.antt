@@ -1,4 +1,4 @@
-use Rattle.std.proofs.Common.{ℕ, List, [], ◌∷◌, Err, length, length-append, ap, ◌∙◌, arith}
+use Rattle.std.proofs.Common.{List, [], ◌∷◌, Err, length-append, ap, ◌∙◌, arith}
 use Rattle.sour_reader.specs.declared.raw.RawFunction.{RawFunction}
 use Rattle.sour_reader.specs.Ahead.{AheadView, ReadsAs, EachUpTo}
 use Rattle.sour_reader.specs.Front.{HasFunction, AreBehindFunctions, EndFunctions}

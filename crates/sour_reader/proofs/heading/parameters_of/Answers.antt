@@ -1,6 +1,6 @@
-use Rattle.std.proofs.Common.{◌≡◌, [], ◌∷◌, map, drop, refl, sym, ◌∙◌, arith}
+use Rattle.std.proofs.Common.{[], ◌∷◌, map, drop, refl, arith}
 use Rattle.std.specs.Prelude.{codes}
-use Rattle.std.proofs.lemmas.Bool.{false≢true, OnTrue_at, OnFalse_at}
+use Rattle.std.proofs.lemmas.Bool.{OnTrue_at, OnFalse_at}
 use Rattle.sour_tokens.specs.Token.{spelling, IsOfItsKind}
 use Rattle.sour_reader.proofs.ValueLaws.{rest_whole, kinds_left}
 use Rattle.sour_reader.proofs.HeadingLaws.{closed_at_once, no_more_parameters, parameters_more, parameters_end, too_many_parameters}

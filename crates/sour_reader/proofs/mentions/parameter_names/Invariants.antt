@@ -1,4 +1,4 @@
-use Rattle.std.proofs.Common.{◌≡◌, [], take, length, ◌≤◌}
+use Rattle.std.proofs.Common.{◌≡◌, [], take}
 use Rattle.sour_reader.specs.Mentions.{with_names}
 use Rattle.sour_reader.proofs.mentions.parameter_names.Given as goal
 

@@ -1,4 +1,4 @@
-use Rattle.std.proofs.Common.{◌≡◌, [], Err, false, ap, arith}
+use Rattle.std.proofs.Common.{Err, ap}
 use Rattle.sour_tokens.specs.Token.{spelling}
 use Rattle.sour_reader.proofs.Faults.{unplaced_line}
 use Rattle.sour_reader.proofs.Readings.{lines_follow, goes_on, goes_nowhere, some_from_test}
