@@ -9,5 +9,5 @@ invariant_of-result c = record {
   within = omega arith;
   at_line = λ going. StandsAtLine-start c.args.program.value c.body_of_main.result.now c.in_ok-new.field-0
       (c.body_of_main.ensures.body ∙ ap main_body c.deref.ensures) c.body_of_main.ensures.parameters
-      (c.in_ok-new.ensures ∙ ap empty_environment (c.len-variables.ensures ∙ ap length c.variables.ensures));
+      (c.in_ok-new.ensures ∙ ap empty_environment (c.len-variables.ensures.value ∙ ap length c.variables.ensures));
 }
