@@ -1,10 +1,9 @@
 use Rattle.std.specs.Prelude.{◌≡◌, ◌<◌, ◌≤◌, ◌⊎◌, ℕ, zero, suc, List, [], ◌∷◌, None, IsSome, length, replicate}
 use Rattle.sour_syntax.specs.declared.literal.FunId.{FunId}
 use Rattle.sour_syntax.specs.declared.literal.Literal.{Literal}
-use Rattle.sour_syntax.specs.declared.literal.Value.{Value}
 use Rattle.sour_syntax.specs.Labels.{first_label}
 use Rattle.sour_syntax.specs.Program.{ProgramView}
-use Rattle.sour_semantics.specs.State.{Environment, Frame, FrameCode, text, State}
+use Rattle.sour_semantics.specs.State.{Environment, Frame, text, State}
 use Rattle.sour_semantics.specs.Step.{step, text_choice, body_of, lines_of}
 
 -- no variable has a value

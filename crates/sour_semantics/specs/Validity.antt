@@ -1,5 +1,5 @@
 -- What holds at every moment of a run of a checked program.
-use Rattle.std.specs.Prelude.{◌≡◌, ◌≤◌, ℕ, Bool, true, List, [], ◌∷◌, ◌++◌, Option, None, Some, IsTrue, is_some, length, map, slice_set}
+use Rattle.std.specs.Prelude.{◌≡◌, ◌≤◌, ℕ, true, List, [], ◌∷◌, ◌++◌, Option, None, Some, IsTrue, is_some, length, map, slice_set}
 use Rattle.std.specs.List.{AllByRecursion}
 use Rattle.sour_syntax.specs.declared.expression.Simple.{Simple}
 use Rattle.sour_syntax.specs.declared.expression.Simple.TheVariants as simple
