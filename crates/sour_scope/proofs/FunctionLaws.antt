@@ -7,6 +7,7 @@ use Rattle.sour_scope.specs.Numbered.{function_of, functions_of}
 use Rattle.sour_scope.specs.Checked.{NamesDiffer, IsAcceptedFunction, AreAccepted}
 use Rattle.sour_scope.proofs.NameLaws.{named_more}
 
+-- the name of a function
 abbrev pub function_name : RawFunction → List ℕ
 function_name function = function.name
 
@@ -17,6 +18,7 @@ pub record FunctionsSoFar (front : List RawFunction) (seen : List (List ℕ)) (f
   pub differ : NamesDiffer (map function_name front)
   pub accepted : AreAccepted 0 front
 
+-- the functions with one more
 functions_of-push : (number last : ℕ) (front : List RawFunction) (function : RawFunction) → last ≡ number + length front
     → functions_of number (front ++ function ∷ []) ≡ functions_of number front ++ function_of last function ∷ []
 functions_of-push number last [] function is =
@@ -24,6 +26,7 @@ functions_of-push number last [] function is =
 functions_of-push number last (first ∷ front) function is =
     ap (λ zs. function_of number first ∷ zs) (functions_of-push (suc number) last front function (omega arith))
 
+-- one more that is accepted
 AreAccepted-push : (number last : ℕ) (front : List RawFunction) (function : RawFunction) → last ≡ number + length front
     → AreAccepted number front → IsAcceptedFunction last function → AreAccepted number (front ++ function ∷ [])
 AreAccepted-push number last [] function is all accepted =

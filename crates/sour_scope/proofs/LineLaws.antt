@@ -12,6 +12,7 @@ pub record LinesSoFar (start : List (List ℕ)) (front : List RawLine) (names : 
   pub names_are : names ≡ with_lines start front
   pub lines_are : (more : List (List ℕ)) → lines ≡ lines_of (with_names names more) 0 front
 
+-- the names behind one more line
 with_lines-push : (names : List (List ℕ)) (front : List RawLine) (line : RawLine) → with_lines names (front ++ line ∷ []) ≡ with_names (with_lines names front) (instr_names line.instr)
 with_lines-push names [] line = refl
 with_lines-push names (first ∷ front) line = with_lines-push (with_names names (instr_names first.instr)) front line
@@ -20,6 +21,7 @@ with_lines-push names (first ∷ front) line = with_lines-push (with_names names
 abbrev line_at : List (List ℕ) → ℕ → RawLine → Line
 line_at names place line = record { label = label_of place line.label; instr = instr_of names line.instr }
 
+-- the lines with one more
 lines_of-push : (names : List (List ℕ)) (start place : ℕ) (front : List RawLine) (line : RawLine) → place ≡ start + length front
     → lines_of names start (front ++ line ∷ []) ≡ lines_of names start front ++ line_at names place line ∷ []
 lines_of-push names start place [] line is =

@@ -31,6 +31,7 @@ main_once : (functions : List RawFunction) (i j : ℕ) → NamesDiffer (map func
 main_once functions i j differ one other =
     named_once function_name functions _ i j one.function other.function differ one.there other.there one.name other.name
 
+-- the function that is made at a place
 slice_get-functions_of : (number last place : ℕ) (functions : List RawFunction) (function : RawFunction) → last ≡ number + place
     → slice_get functions place ≡ Some function → slice_get (functions_of number functions) place ≡ Some (function_of last function)
 slice_get-functions_of number last place [] function is at = absurd (cc)
@@ -51,6 +52,7 @@ has_versions (first ∷ functions) text zero function (front, rest, whole, spell
 has_versions (first ∷ functions) text (suc place) function (front, rest, whole, spelled, others) at none =
     has_versions functions rest place function others at none
 
+-- a function with versions and without parameters may be main
 main_versions : (functions : List Function) (main : FunId) (function : RawFunction) (versions : List RawVersion)
     → slice_get functions main.0 ≡ Some (function_of main.0 function) → function.parameters ≡ [] → function.versions ≡ versions → (versions ≡ [] → ⊥)
     → HasMain (record { functions = functions; main = main })

@@ -19,6 +19,7 @@ use Rattle.sour_scope.specs.Numbered.{number_of}
 use Rattle.sour_scope.specs.Checked.{NamesDiffer}
 use Rattle.sour_scope.proofs.ListLaws.{all_at, all_push, slice_get-last}
 
+-- a test that would hold only of the same names
 tested : (a b : List ℕ) (test : Bool) → bytes_eq a b ≡ test → a ≢ b → bytes_eq a b ≡ false
 tested a b true is other = absurd (other ((bytes_eq-Decides a b).0 is))
 tested a b false is other = is
@@ -69,6 +70,7 @@ numbered old new name x differ (inr (absent, put, place)) =
       ap (λ names. slice_get names x.0) put ∙ ap (λ n. slice_get (old ++ name ∷ []) n) place ∙ slice_get-last old name,
     )
 
+-- with the name or without it the names stand in front
 chosen_front : (names : List (List ℕ)) (name : List ℕ) (test : Bool) → (more : List (List ℕ)) × (cond test names (names ++ name ∷ []) ≡ names ++ more)
 chosen_front names name true = ([], sym (append-nil names))
 chosen_front names name false = (name ∷ [], refl)
@@ -97,6 +99,7 @@ pub differ_after : {E : Type 0} (result : Result VarId E) (old new : List (List 
 differ_after (Ok x) old new name differ ok err = (numbered old new name x differ ok).1
 differ_after (Err e) old new name differ ok err = let P : List (List ℕ) → Type 0 = NamesDiffer in subst P (sym err) differ
 
+-- by what the test says
 tested_new : (old new : List (List ℕ)) (name : List ℕ) (x : VarId) (test : Bool) → nat_eq x.0 (length old) ≡ test → Numbers old new name x
     → (IsTrue test ↔ AllByRecursion (λ other. other ≢ name) old) × OnTrue test (new ≡ old ++ name ∷ [])
 tested_new old new name x true is (inl (same, at)) =

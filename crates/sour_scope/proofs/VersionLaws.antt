@@ -11,6 +11,7 @@ use Rattle.sour_reader.specs.declared.raw.RawVersion.{RawVersion}
 use Rattle.sour_scope.specs.Numbered.{lines_of, body_of, version_of}
 use Rattle.sour_scope.specs.Checked.{NamesDiffer, IsAcceptedVersion}
 
+-- the name of a version
 abbrev pub version_name : RawVersion → List ℕ
 version_name version = version.name
 

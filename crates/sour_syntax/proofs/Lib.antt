@@ -8,3 +8,4 @@ pub mod GivesLaws
 pub mod SpreadLaws
 pub mod LastLine
 pub mod ScopeLists
+pub mod OneLine

@@ -33,9 +33,10 @@ fn followers(instr: &Instr, jump: Jump, next: usize) -> (Option<usize>, Option<u
     }
 }
 
-/// For each place the scope there, as far as it was found.
+/// The scopes that were found so far.
 #[derive(Drop)]
 pub(crate) struct ScopeTable {
+    /// For each place the scope there, where it has one.
     pub(crate) rows: Vec<Option<List<bool>>>,
     /// The places that have a scope, in the order in which they got it.
     reached: Vec<usize>,

@@ -32,19 +32,19 @@ fn labels_are_their_bytes(rt: HostRuntime) -> Result<(), Fail> {
     Ok(())
 }
 
-fn body_that_returns_nil(alloc: Global) -> Result<Option<Body>, AllocError>
-    ensures { IfOk result (λ found. IfSome found (λ body. body.parameters ≡ 0)) }
+fn body_that_returns_nil(alloc: Global) -> Result<Body, AllocError>
+    ensures { IfOk result (λ body. body.parameters ≡ 0) }
 {
     let label = Label::automatic(alloc, 0)?;
     let instr = Instr::Return(Expr::Plain(Simple::Lit(Literal::Nil)));
     let mut lines = List::new(alloc);
     lines.push(Line { label, instr })?;
-    Body::checked(alloc, FunId(0), 0, Names::new(alloc), lines)
+    Body::new(alloc, FunId(0), 0, Names::new(alloc), lines)
 }
 
 #[test]
 fn a_body_gives_its_parts(rt: HostRuntime) -> Result<(), Fail> {
-    let body = body_that_returns_nil(rt.alloc())?.expect(&rt, "a body");
+    let body = body_that_returns_nil(rt.alloc())?;
     assert_eq!(rt; body.function(), FunId(0));
     assert_eq!(rt; body.parameters(), 0);
     assert_eq!(rt; body.variables().len(), 0);
@@ -122,7 +122,7 @@ fn program_of(alloc: Global, body: Body) -> Result<Program, AllocError>
 
 #[test]
 fn a_program_gives_its_functions(rt: HostRuntime) -> Result<(), Fail> {
-    let body = body_that_returns_nil(rt.alloc())?.expect(&rt, "a body");
+    let body = body_that_returns_nil(rt.alloc())?;
     let program = program_of(rt.alloc(), body)?;
     assert_eq!(rt; program.main(), FunId(0));
     assert!(rt; program.function(FunId(0)).is_some());
