@@ -19,7 +19,7 @@ pub fn advances_add()
     ensures { AdvancesAdd }
 {}
 
-/// Between two turns no more instructions are carried out than a text can give.
+/// In a run of a checked program no more than 135,168 steps follow one another without a turn.
 pub fn turns_come_soon()
     ensures { TurnsComeSoon }
 {}

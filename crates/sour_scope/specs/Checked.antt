@@ -3,16 +3,11 @@ use Rattle.std.specs.Prelude.{◌≡◌, ◌≢◌, ℕ, suc, List, [], ◌∷�
 use Rattle.std.specs.List.{AllByRecursion}
 use Rattle.sour_syntax.specs.declared.literal.Literal.{Literal}
 use Rattle.sour_syntax.specs.Body.{IsBody}
-use Rattle.sour_syntax.specs.Program.{ProgramView}
+use Rattle.sour_syntax.specs.Program.{ProgramView, NamesDiffer}
 use Rattle.sour_reader.specs.declared.raw.RawVersion.{RawVersion}
 use Rattle.sour_reader.specs.declared.raw.RawFunction.{RawFunction}
 use Rattle.sour_reader.specs.declared.raw.RawJob.{RawJob}
 use Rattle.sour_scope.specs.Numbered.{body_of, functions_of, inputs_of}
-
--- no two of the names are the same
-abbrev pub NamesDiffer : List (List ℕ) → Type 0
-NamesDiffer [] = ⊤
-NamesDiffer (name ∷ names) = AllByRecursion (λ other. other ≢ name) names × NamesDiffer names
 
 -- a version of the function that has this number and these parameters is accepted
 abbrev pub IsAcceptedVersion : ℕ → List (List ℕ) → RawVersion → Type 0

@@ -1,6 +1,6 @@
 ghost use Rattle.std.specs.Prelude.{◌≡◌, slice_get};
 ghost use Rattle.std.specs.Option.{option_copied};
-ghost use Rattle.sour_syntax.specs.Program.{ProgramView, HasMain};
+ghost use Rattle.sour_syntax.specs.Program.{ProgramView, IsProgram};
 
 use crate::body::Body;
 use crate::label::Label;
@@ -22,7 +22,7 @@ pub struct Function {
     pub versions: List<Version>,
 }
 
-/// A checked program.
+/// A checked program: what some text means.
 #[derive(Drop)]
 pub struct Program {
     functions: List<Function>,
@@ -30,19 +30,19 @@ pub struct Program {
 }
 
 impl Model for Program {
-    ghost use Rattle.sour_syntax.specs.Program.{ProgramView, HasMain};
+    ghost use Rattle.sour_syntax.specs.Program.{ProgramView, IsProgram};
 
     ghost Value = { ProgramView };
 
     ghost view = { λ program. record { functions = program.functions; main = program.main } };
 
-    ghost invariant = { λ program. HasMain (record { functions = program.functions; main = program.main }) };
+    ghost invariant = { λ program. IsProgram (record { functions = program.functions; main = program.main }) };
 }
 
 impl Program {
     /// The program of these functions. It takes no memory.
     pub fn of_functions(functions: List<Function>, main: FunId) -> Program
-        requires { HasMain (record { functions = functions; main = main }) }
+        requires { IsProgram (record { functions = functions; main = main }) }
         ensures { result ≡ record { functions = functions; main = main } }
     {
         Program { functions, main }
@@ -58,7 +58,7 @@ impl Program {
     /// The function that a run enters first.
     pub fn main(&self) -> FunId
         ensures value { result ≡ self.now.main }
-        ensures there { HasMain self.now }
+        ensures checked { IsProgram self.now }
     {
         self.main
     }
