@@ -12,15 +12,54 @@ use Rattle.sour_syntax.specs.declared.literal.Literal.TheVariants.{Number, Truth
 use Rattle.sour_syntax.specs.declared.literal.Value.{Value}
 use Rattle.sour_syntax.specs.declared.literal.Value.TheVariants.{Plain}
 use Rattle.sour_syntax.specs.declared.program.Version.{Version}
-use Rattle.sour_syntax.specs.Literals.{IsValidLiteral}
-use Rattle.sour_syntax.specs.Program.{ProgramView}
+use Rattle.sour_syntax.specs.Body.{IsBody}
+use Rattle.sour_syntax.specs.Program.{ProgramView, HasMain}
 use Rattle.sour_syntax.specs.Scopes.{Scope, HasScope}
 use Rattle.sour_semantics.specs.State.{Environment, Frame, FrameCode, Ending, returned, stopped, trapped, stuck, State}
 use Rattle.sour_semantics.specs.Evaluation.{is_i64}
 use Rattle.sour_semantics.specs.Step.{version_of_code, body_of, output_limit}
 
+-- a number lies in i64
+abbrev pub IsValidLiteral : Literal → Type 0
+IsValidLiteral (Number n) = IsTrue (is_i64 n)
+IsValidLiteral (Truth b) = Unit {0}
+IsValidLiteral Nil = Unit {0}
+
 abbrev pub IsValidValue : Value → Type 0
 IsValidValue (Plain literal) = IsValidLiteral literal
+
+-- the literals of an operand
+abbrev pub simple_literals : Simple → List Literal
+simple_literals (simple.Lit literal) = literal ∷ []
+simple_literals (simple.Var x) = []
+
+-- the literals of an expression
+abbrev pub literals_of_expr : Expr → List Literal
+literals_of_expr (expr.Plain a) = simple_literals a
+literals_of_expr (expr.Not a) = simple_literals a
+literals_of_expr (expr.Binary op a b) = simple_literals a ++ simple_literals b
+
+-- the literals of an instruction
+abbrev pub literals_of : Instr → List Literal
+literals_of (Var x e) = literals_of_expr e
+literals_of (Drop x) = []
+literals_of (Assign x e) = literals_of_expr e
+literals_of (Print e) = literals_of_expr e
+literals_of (Read x) = []
+literals_of (Branch e a b) = literals_of_expr e
+literals_of (Goto a) = []
+literals_of (Return e) = literals_of_expr e
+literals_of Stop = []
+
+-- a version whose body is one, and whose literals are valid
+pub record IsSoundVersion (version : Version) : Type 0 where
+  pub body : IsBody version.body
+  pub literals : AllByRecursion (λ line. AllByRecursion IsValidLiteral (literals_of line.instr)) version.body.lines
+
+-- a checked program
+pub record IsSound (program : ProgramView) : Type 0 where
+  pub main : HasMain program
+  pub versions : (code : FrameCode) (version : Version) → version_of_code program code ≡ Some version → IsSoundVersion version
 
 -- a variable is in scope where it has a value
 abbrev pub scope_of : Environment → Scope

@@ -5,7 +5,6 @@ pub mod Labels
 pub mod Terminator
 pub mod Jumps
 pub mod Scopes
-pub mod Literals
 pub mod Body
 pub mod Program
 pub mod Spread

@@ -1,11 +1,10 @@
 -- What holds of every program: it is what some text means.
-use Rattle.std.specs.Prelude.{◌≡◌, ◌≢◌, ◌≤◌, ℕ, suc, List, [], ◌∷◌, Some, map, length, slice_get, codes}
+use Rattle.std.specs.Prelude.{◌≡◌, ◌≢◌, ℕ, suc, List, [], ◌∷◌, Some, map, slice_get, codes}
 use Rattle.std.specs.List.{AllByRecursion}
 use Rattle.sour_syntax.specs.declared.literal.FunId.{FunId}
 use Rattle.sour_syntax.specs.declared.program.Function.{Function}
 use Rattle.sour_syntax.specs.declared.program.Version.{Version}
 use Rattle.sour_syntax.specs.Body.{IsBody}
-use Rattle.sour_syntax.specs.Literals.{literals_of, IsValidLiteral}
 
 -- what contracts see of a program
 pub record ProgramView : Type 0 where
@@ -22,11 +21,8 @@ pub record IsVersion (number parameters : ℕ) (version : Version) : Type 0 wher
   pub body : IsBody version.body
   pub numbered : version.body.function.0 ≡ number
   pub takes : version.body.parameters ≡ parameters
-  pub lines : length version.body.lines ≤ 4096
-  pub variables : length version.body.variables ≤ 1024
-  pub literals : AllByRecursion (λ line. AllByRecursion IsValidLiteral (literals_of line.instr)) version.body.lines
 
--- the function that has this number: its versions, of which there is one, have different names and as many parameters each
+-- the function that has this number: it has a version, its versions have different names, and all have as many parameters
 pub record IsFunction (number : ℕ) (function : Function) : Type 0 where
   pub some : ¬ (function.versions ≡ [])
   pub names : NamesDiffer (map (λ (version : Version). version.name) function.versions)
@@ -52,5 +48,4 @@ pub record HasMain (program : ProgramView) : Type 0 where
 pub record IsProgram (program : ProgramView) : Type 0 where
   pub names : NamesDiffer (map (λ (function : Function). function.name) program.functions)
   pub each : AreFunctions 0 program.functions
-  pub few : length program.functions ≤ 256
   pub main : HasMain program
