@@ -9,3 +9,4 @@ pub mod SpreadLaws
 pub mod LastLine
 pub mod ScopeLists
 pub mod OneLine
+pub mod OneFunction

@@ -33,7 +33,8 @@ fn labels_are_their_bytes(rt: HostRuntime) -> Result<(), Fail> {
 }
 
 fn body_that_returns_nil(alloc: Global) -> Result<Body, AllocError>
-    ensures { IfOk result (λ body. body.parameters ≡ 0) }
+    ensures parameters { IfOk result (λ body. body.parameters ≡ 0) }
+    ensures function { IfOk result (λ body. body.function.0 ≡ 0) }
 {
     let label = Label::automatic(alloc, 0)?;
     let instr = Instr::Return(Expr::Plain(Simple::Lit(Literal::Nil)));
@@ -109,7 +110,8 @@ fn a_body_is_refused(rt: HostRuntime) -> Result<(), Fail> {
 }
 
 fn program_of(alloc: Global, body: Body) -> Result<Program, AllocError>
-    requires { body.parameters ≡ 0 }
+    requires parameters { body.parameters ≡ 0 }
+    requires function { body.function.0 ≡ 0 }
 {
     let name = Label::from_bytes(Vec::from_slice(alloc, b"base")?);
     let mut versions = List::new(alloc);

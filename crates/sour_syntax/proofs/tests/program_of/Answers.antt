@@ -1,6 +1,9 @@
-use Rattle.std.proofs.Common.{◌≡◌, List, [], ◌∷◌, ◌++◌, ap, ◌∙◌, slice_get}
+use Rattle.std.proofs.Common.{◌≡◌, List, [], ◌∷◌, ◌++◌, refl, sym, ap, ◌∙◌, subst}
 use Rattle.sour_syntax.specs.declared.program.Function.{Function}
 use Rattle.sour_syntax.specs.declared.program.Version.{Version}
+use Rattle.sour_syntax.specs.Body.{IsBody}
+use Rattle.sour_syntax.specs.Program.{IsProgram}
+use Rattle.sour_syntax.proofs.OneFunction.{IsProgram-one}
 use Rattle.sour_syntax.proofs.tests.program_of.Goals as goal
 
 pub of_functions-requires : goal.of_functions-requires
@@ -9,11 +12,5 @@ of_functions-requires c =
     let function : Function = record { name = c.from_bytes-name-2.result; versions = c.push.new.self } in
     let versions : c.push.new.self ≡ version ∷ [] = c.in_ok-push.ensures.ok ∙ ap (λ (before : List Version). before ++ version ∷ []) c.new-versions.ensures in
     let functions : c.push-2.new.self ≡ function ∷ [] = c.in_ok-push-2.ensures.ok ∙ ap (λ (before : List Function). before ++ function ∷ []) c.new-functions.ensures in
-    record {
-      function = function;
-      version = version;
-      others = [];
-      found = ap (λ (all : List Function). slice_get all 0) functions;
-      text = versions;
-      parameters = c.requires;
-    }
+    subst (λ (all : List Function). IsProgram (record { functions = all; main = record { 0 = 0 } })) (sym functions)
+    (IsProgram-one function version (c.from_bytes-name-2.ensures ∙ c.in_ok-from_slice-2.ensures.items) versions (subst IsBody c.body.view_is c.body.invariant.0) c.requires.function c.requires.parameters)
