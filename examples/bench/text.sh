@@ -1,6 +1,6 @@
 #!/bin/sh
-# Writes a text near the limit of 1,048,576 bytes: functions of 4,096 lines each, of which main returns at
-# once, and no inputs. With a number it writes that many of them; 15 are as many as fit.
+# Writes a text near the limit of 1,048,576 bytes: functions of 4,096 lines each. It has no inputs, so nothing
+# runs. With a number it writes that many functions; 15 are as many as fit.
 count=${1:-15}
 awk -v count="$count" 'BEGIN {
     for (f = 0; f < count; f++) {
