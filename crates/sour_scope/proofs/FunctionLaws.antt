@@ -1,11 +1,15 @@
--- The functions so far, when one more is made.
-use Rattle.std.proofs.Common.{◌≡◌, ◌≢◌, ◌+◌, ℕ, zero, suc, List, [], ◌∷◌, ◌++◌, Some, length, map, sym, ap, ◌∙◌, subst, arith}
+-- The functions so far, when one more is made, and the functions that are made of accepted ones.
+use Rattle.std.proofs.Common.{◌≡◌, ◌≢◌, ◌+◌, ℕ, zero, suc, List, [], ◌∷◌, ◌++◌, Some, length, map, refl, sym, ap, ◌∙◌, subst, arith}
 use Rattle.std.specs.List.{AllByRecursion, slice_get}
 use Rattle.sour_syntax.specs.declared.program.Function.{Function}
+use Rattle.sour_syntax.specs.Program.{NamesDiffer, IsFunction, AreFunctions}
 use Rattle.sour_reader.specs.declared.raw.RawFunction.{RawFunction}
-use Rattle.sour_scope.specs.Numbered.{function_of, functions_of}
-use Rattle.sour_scope.specs.Checked.{NamesDiffer, IsAcceptedFunction, AreAccepted}
+use Rattle.sour_reader.specs.Job.{SpellsFunctions}
+use Rattle.sour_scope.specs.Numbered.{version_of, function_of, functions_of}
+use Rattle.sour_scope.specs.Checked.{IsAcceptedFunction, AreAccepted}
+use Rattle.sour_scope.proofs.ListLaws.{map_some}
 use Rattle.sour_scope.proofs.NameLaws.{named_more}
+use Rattle.sour_scope.proofs.VersionLaws.{are_versions, versions_differ}
 
 -- the name of a function
 abbrev pub function_name : RawFunction → List ℕ
@@ -59,3 +63,24 @@ functions_more front seen after functions number function made before count abse
       differ = names.0;
       accepted = AreAccepted-push 0 number front function (omega arith) before.accepted accepted;
     }
+
+-- the function that is made of an accepted one with versions
+is_function : (number : ℕ) (function : RawFunction) → ¬ (function.versions ≡ []) → IsAcceptedFunction number function → IsFunction number (function_of number function)
+is_function number function some accepted = record {
+  some = map_some (version_of number function.parameters) function.versions some;
+  names = versions_differ number function.parameters function.versions accepted.versions;
+  parameters = length function.parameters;
+  versions = are_versions number function.parameters function.versions accepted.each;
+}
+
+-- the functions that are made of the accepted ones of a text
+pub are_functions : (number : ℕ) (raw : List RawFunction) (text : List (List (List ℕ))) → SpellsFunctions raw text → AreAccepted number raw
+    → AreFunctions number (functions_of number raw)
+are_functions number [] text spells all = tt
+are_functions number (first ∷ raw) text (front, rest, whole, spelled, others) all =
+    (is_function number first spelled.some all.0, are_functions (suc number) raw rest others all.1)
+
+-- the functions that are made keep their names
+pub function_names : (number : ℕ) (raw : List RawFunction) → map (λ (function : Function). function.name) (functions_of number raw) ≡ map function_name raw
+function_names number [] = refl
+function_names number (first ∷ raw) = ap (λ names. first.name ∷ names) (function_names (suc number) raw)

@@ -1,5 +1,5 @@
 -- What holds of the elements of a list, and of its last one.
-use Rattle.std.proofs.Common.{◌≡◌, ◌+◌, ◌<◌, ℕ, zero, suc, List, [], ◌∷◌, ◌++◌, Some, length, get_or, take, refl, sym, ap, ◌∙◌, subst}
+use Rattle.std.proofs.Common.{◌≡◌, ◌+◌, ◌<◌, ℕ, zero, suc, List, [], ◌∷◌, ◌++◌, Some, length, map, get_or, take, refl, sym, ap, ◌∙◌, subst}
 use Rattle.std.proofs.lemmas.List.{take_more}
 use Rattle.std.specs.List.{AllByRecursion, slice_get}
 
@@ -13,6 +13,11 @@ all_at P (y ∷ xs) (suc place) x all at = all_at P xs place x all.1 at
 pub all_push : {X : Type 0} (P : X → Type 0) (xs : List X) (x : X) → AllByRecursion P xs → P x → AllByRecursion P (xs ++ x ∷ [])
 all_push P [] x all last = (last, tt)
 all_push P (y ∷ xs) x all last = (all.0, all_push P xs x all.1 last)
+
+-- what is made of some elements isn't empty
+pub map_some : {A B : Type 0} (f : A → B) (xs : List A) → ¬ (xs ≡ []) → ¬ (map f xs ≡ [])
+map_some f [] some is = some refl
+map_some f (x ∷ xs) some is = absurd (cc)
 
 -- the element behind the others
 pub slice_get-last : {X : Type 0} (xs : List X) (x : X) → slice_get (xs ++ x ∷ []) (length xs) ≡ Some x

@@ -1,21 +1,21 @@
--- The function main: there is one at most, and the program has it.
+-- The function main: there is one at most, and the program that is made has it.
 use Rattle.std.proofs.Common.{◌≡◌, ◌+◌, ℕ, zero, suc, Bool, List, [], ◌∷◌, Some, length, map, eqb, refl, sym, ap, ◌∙◌, subst, arith}
-use Rattle.std.specs.Prelude.{◌↔◌}
+use Rattle.std.specs.Prelude.{◌↔◌, codes}
 use Rattle.std.specs.Bool.{IsTrue}
 use Rattle.std.specs.List.{slice_get}
 use Rattle.std.proofs.lemmas.Bool.Decides.{Decides-eqb}
 use Rattle.sour_syntax.specs.declared.literal.FunId.{FunId}
 use Rattle.sour_syntax.specs.declared.literal.Literal.{Literal}
 use Rattle.sour_syntax.specs.declared.program.Function.{Function}
-use Rattle.sour_syntax.specs.Program.{ProgramView, HasMain}
+use Rattle.sour_syntax.specs.Program.{ProgramView, NamesDiffer, AreFunctions, HasMain, IsProgram}
 use Rattle.sour_reader.specs.declared.raw.RawVersion.{RawVersion}
 use Rattle.sour_reader.specs.declared.raw.RawFunction.{RawFunction}
 use Rattle.sour_reader.specs.declared.raw.RawJob.{RawJob}
 use Rattle.sour_reader.specs.Job.{SpellsFunctions}
 use Rattle.sour_scope.specs.Numbered.{version_of, function_of, functions_of, inputs_of}
-use Rattle.sour_scope.specs.Checked.{NamesDiffer, AreAccepted, IsMain, IsChecked}
+use Rattle.sour_scope.specs.Checked.{AreAccepted, IsMain, IsChecked}
 use Rattle.sour_scope.proofs.NameLaws.{named_once}
-use Rattle.sour_scope.proofs.FunctionLaws.{function_name}
+use Rattle.sour_scope.proofs.FunctionLaws.{function_name, are_functions, function_names}
 
 -- of two tests, where the first holds
 pub same_and_empty : (name main : List ℕ) (parameters : List (List ℕ)) (empty : Bool) → name ≡ main → empty ≡ eqb (length parameters) 0
@@ -54,25 +54,38 @@ has_versions (first ∷ functions) text (suc place) function (front, rest, whole
 
 -- a function with versions and without parameters may be main
 main_versions : (functions : List Function) (main : FunId) (function : RawFunction) (versions : List RawVersion)
-    → slice_get functions main.0 ≡ Some (function_of main.0 function) → function.parameters ≡ [] → function.versions ≡ versions → (versions ≡ [] → ⊥)
+    → slice_get functions main.0 ≡ Some (function_of main.0 function) → function.name ≡ codes "main" → function.parameters ≡ [] → function.versions ≡ versions → (versions ≡ [] → ⊥)
     → HasMain (record { functions = functions; main = main })
-main_versions functions main function [] found parameters is some = absurd (some refl)
-main_versions functions main function (version ∷ versions) found parameters is some = record {
+main_versions functions main function [] found named parameters is some = absurd (some refl)
+main_versions functions main function (version ∷ versions) found named parameters is some = record {
   function = function_of main.0 function;
   version = version_of main.0 function.parameters version;
   others = map (version_of main.0 function.parameters) versions;
   found = found;
+  named = named;
   text = ap (map (version_of main.0 function.parameters)) is;
   parameters = ap length parameters;
 }
 
 -- the program has a function main with a version and without parameters
-pub has_main : (raw : List RawFunction) (text : List (List (List ℕ))) (functions : List Function) (main : FunId)
+has_main : (raw : List RawFunction) (text : List (List (List ℕ))) (functions : List Function) (main : FunId)
     → SpellsFunctions raw text → IsMain raw main.0 → functions ≡ functions_of 0 raw → HasMain (record { functions = functions; main = main })
 has_main raw text functions main spells is made =
     let found = slice_get-functions_of 0 main.0 main.0 raw is.function (omega arith) is.there in
-    main_versions functions main is.function is.function.versions (ap (λ zs. slice_get zs main.0) made ∙ found) is.parameters refl
+    main_versions functions main is.function is.function.versions (ap (λ zs. slice_get zs main.0) made ∙ found) is.name is.parameters refl
     (has_versions raw text main.0 is.function spells is.there)
+
+-- the functions that are made of accepted ones, one of them main, are a program
+pub is_program : (raw : List RawFunction) (text : List (List (List ℕ))) (functions : List Function) (main : FunId)
+    → SpellsFunctions raw text → NamesDiffer (map function_name raw) → AreAccepted 0 raw → IsMain raw main.0
+    → functions ≡ functions_of 0 raw → IsProgram (record { functions = functions; main = main })
+is_program raw text functions main spells differ accepted is made =
+    let P : List (List ℕ) → Type 0 = NamesDiffer in
+    let Q : List Function → Type 0 = AreFunctions 0 in record {
+      names = subst P (sym (ap (map (λ (function : Function). function.name)) made ∙ function_names 0 raw)) differ;
+      each = subst Q (sym made) (are_functions 0 raw text spells accepted);
+      main = has_main raw text functions main spells is made;
+    }
 
 -- the text is accepted as this program and these inputs, and as no others
 pub checked_once : (raw : RawJob) (functions : List Function) (main : FunId) (inputs : List (List Literal))

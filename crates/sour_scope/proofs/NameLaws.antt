@@ -14,9 +14,9 @@ use Rattle.std.proofs.lemmas.Option.{slice_get_within, slice_get-map, slice_get_
 use Rattle.std.proofs.lemmas.Map.Keys.{any_passes_from_place}
 use Rattle.sour_syntax.specs.declared.literal.VarId.{VarId}
 use Rattle.sour_syntax.specs.Names.{Numbers}
+use Rattle.sour_syntax.specs.Program.{NamesDiffer}
 use Rattle.sour_reader.specs.Mentions.{with_name, with_names}
 use Rattle.sour_scope.specs.Numbered.{number_of}
-use Rattle.sour_scope.specs.Checked.{NamesDiffer}
 use Rattle.sour_scope.proofs.ListLaws.{all_at, all_push, slice_get-last}
 
 -- a test that would hold only of the same names

@@ -1,15 +1,17 @@
--- The versions so far, and the body of one.
-use Rattle.std.proofs.Common.{◌≡◌, ℕ, List, [], length, map, ap, ◌∙◌}
+-- The versions so far, the body of one, and the versions that are made of accepted ones.
+use Rattle.std.proofs.Common.{◌≡◌, ℕ, List, [], ◌∷◌, length, map, refl, sym, ap, ◌∙◌, subst}
 use Rattle.std.specs.List.{AllByRecursion}
+use Rattle.std.proofs.lemmas.Simd.{map-map}
 use Rattle.sour_syntax.specs.declared.literal.FunId.{FunId}
 use Rattle.sour_syntax.specs.declared.instruction.Line.{Line}
 use Rattle.sour_syntax.specs.BodyView.{BodyView}
+use Rattle.sour_syntax.specs.declared.program.Version.{Version}
+use Rattle.sour_syntax.specs.Program.{NamesDiffer, IsVersion}
 use Rattle.sour_reader.specs.declared.raw.RawLine.{RawLine}
 use Rattle.sour_reader.specs.Mentions.{with_names, with_lines, variables_of}
-use Rattle.sour_syntax.specs.declared.program.Version.{Version}
 use Rattle.sour_reader.specs.declared.raw.RawVersion.{RawVersion}
 use Rattle.sour_scope.specs.Numbered.{lines_of, body_of, version_of}
-use Rattle.sour_scope.specs.Checked.{NamesDiffer, IsAcceptedVersion}
+use Rattle.sour_scope.specs.Checked.{IsAcceptedVersion}
 
 -- the name of a version
 abbrev pub version_name : RawVersion → List ℕ
@@ -32,3 +34,17 @@ body_is function parameters start names variables raw slice count lines count_is
     let names_all : names ≡ all = names_are ∙ ap (λ zs. with_lines zs slice) start_is ∙ ap (with_lines (with_names [] parameters)) slice_is in
     ap (λ n. made n variables lines) count_is ∙ ap (λ v. made (length parameters) v lines) (variables_are ∙ names_all)
     ∙ ap (made (length parameters) all) (lines_are ∙ ap (λ v. lines_of v 0 slice) names_all ∙ ap (lines_of all 0) slice_is)
+
+-- the versions that are made of accepted ones
+pub are_versions : (number : ℕ) (parameters : List (List ℕ)) (versions : List RawVersion) → AllByRecursion (IsAcceptedVersion number parameters) versions
+    → AllByRecursion (IsVersion number (length parameters)) (map (version_of number parameters) versions)
+are_versions number parameters [] all = tt
+are_versions number parameters (version ∷ versions) all =
+    (record { body = all.0; numbered = refl; takes = refl }, are_versions number parameters versions all.1)
+
+-- their names differ as before
+pub versions_differ : (number : ℕ) (parameters : List (List ℕ)) (versions : List RawVersion) → NamesDiffer (map version_name versions)
+    → NamesDiffer (map (λ (version : Version). version.name) (map (version_of number parameters) versions))
+versions_differ number parameters versions differ =
+    let P : List (List ℕ) → Type 0 = NamesDiffer in
+    subst P (sym (map-map (λ (version : Version). version.name) (version_of number parameters) versions)) differ

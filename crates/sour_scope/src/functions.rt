@@ -2,10 +2,11 @@
 
 ghost use Rattle.std.specs.Prelude.{◌≡◌, ◌≤◌, List as Listed, length, map, IfOk, IfSome, IfNone, OnSome};
 ghost use Rattle.std.specs.List.{AllByRecursion};
+ghost use Rattle.sour_syntax.specs.Program.{NamesDiffer};
 ghost use Rattle.sour_reader.specs.declared.raw.RawFunction.{RawFunction};
 ghost use Rattle.sour_reader.specs.Limits.{IsShortFunction};
 ghost use Rattle.sour_scope.specs.Numbered.{function_of, functions_of};
-ghost use Rattle.sour_scope.specs.Checked.{NamesDiffer, IsAcceptedFunction, AreAccepted};
+ghost use Rattle.sour_scope.specs.Checked.{IsAcceptedFunction, AreAccepted};
 
 use crate::names::{DistinctNames, are_distinct, copy_of};
 use crate::versions::versions_of;

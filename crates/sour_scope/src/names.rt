@@ -3,9 +3,9 @@
 ghost use Rattle.std.specs.Prelude.{◌≡◌, ◌≢◌, ◌<◌, ◌≤◌, ◌+◌, ◌^◌, ◌↔◌, ℕ, List, [], ◌∷◌, ◌++◌, length, IsTrue, IfOk, OnOk};
 ghost use Rattle.std.specs.Bool.{OnTrue};
 ghost use Rattle.std.specs.List.{AllByRecursion};
+ghost use Rattle.sour_syntax.specs.Program.{NamesDiffer};
 ghost use Rattle.sour_reader.specs.Mentions.{with_name, with_names};
 ghost use Rattle.sour_scope.specs.Numbered.{number_of};
-ghost use Rattle.sour_scope.specs.Checked.{NamesDiffer};
 
 use sour_syntax::{Label, Names, VarId};
 use std::alloc::{AllocError, Global};
@@ -28,7 +28,7 @@ pub(crate) struct DistinctNames {
 impl Model for DistinctNames {
     ghost use Rattle.std.specs.Prelude.{List, ℕ};
     ghost use Rattle.std.specs.Coded.{coded_list, coded_ℕ};
-    ghost use Rattle.sour_scope.specs.Checked.{NamesDiffer};
+    ghost use Rattle.sour_syntax.specs.Program.{NamesDiffer};
 
     ghost Value = { List (List ℕ) };
 

@@ -2,11 +2,12 @@
 
 ghost use Rattle.std.specs.Prelude.{◌≡◌, ◌≤◌, List as Listed, [], length, map, IfOk, IfSome, IfNone, OnSome};
 ghost use Rattle.std.specs.List.{AllByRecursion};
+ghost use Rattle.sour_syntax.specs.Program.{NamesDiffer};
 ghost use Rattle.sour_reader.specs.declared.raw.RawVersion.{RawVersion};
 ghost use Rattle.sour_reader.specs.Mentions.{with_names};
 ghost use Rattle.sour_reader.specs.Limits.{IsShortVersion};
 ghost use Rattle.sour_scope.specs.Numbered.{version_of};
-ghost use Rattle.sour_scope.specs.Checked.{NamesDiffer, IsAcceptedVersion};
+ghost use Rattle.sour_scope.specs.Checked.{IsAcceptedVersion};
 
 use crate::lines::lines_of;
 use crate::names::{DistinctNames, copy_of};

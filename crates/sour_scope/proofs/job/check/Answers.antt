@@ -1,5 +1,5 @@
 use Rattle.std.proofs.Common.{◌≡◌, ◌∙◌}
-use Rattle.sour_scope.proofs.MainLaws.{has_main, checked_once}
+use Rattle.sour_scope.proofs.MainLaws.{is_program, checked_once}
 use Rattle.sour_scope.proofs.job.check.Goals as goal
 
 pub returns-in_default-main_of-clause-unplaced : goal.returns-in_default-main_of-clause-unplaced
@@ -8,7 +8,8 @@ returns-in_default-main_of-clause-unplaced c = λ _ program inputs checked.
 
 pub of_functions-requires : goal.of_functions-requires
 of_functions-requires c =
-    has_main c.args.raw.functions _ c.in-Some.functions c.in-Some-main_of.main c.requires.1.spelled.each
+    is_program c.args.raw.functions _ c.in-Some.functions c.in-Some-main_of.main c.requires.1.spelled.each
+    (rw (c.in-Some.is, c.as_slice.ensures) at c.in_ok-functions.ensures.differ) (rw (c.in-Some.is, c.as_slice.ensures) at c.in_ok-functions.ensures.accepted)
     (rw c.as_slice-2.ensures at c.in-Some-main_of.ensures.some) (rw (c.in-Some.is, c.as_slice.ensures) at c.in_ok-functions.ensures.some)
 
 pub returns-clause-found : goal.returns-clause-found

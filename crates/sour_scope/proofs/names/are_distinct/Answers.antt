@@ -1,7 +1,7 @@
 use Rattle.std.proofs.Common.{List, ℕ, take, sym, ◌∙◌, subst}
 use Rattle.std.proofs.lemmas.Bool.{false≢true}
 use Rattle.std.proofs.lemmas.List.{map-id}
-use Rattle.sour_scope.specs.Checked.{NamesDiffer}
+use Rattle.sour_syntax.specs.Program.{NamesDiffer}
 use Rattle.sour_scope.proofs.NameLaws.{new_named}
 use Rattle.sour_scope.proofs.names.are_distinct.Goals as goal
 

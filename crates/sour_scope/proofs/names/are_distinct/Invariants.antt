@@ -1,5 +1,5 @@
 use Rattle.std.proofs.Common.{◌≡◌, take}
-use Rattle.sour_scope.specs.Checked.{NamesDiffer}
+use Rattle.sour_syntax.specs.Program.{NamesDiffer}
 use Rattle.sour_scope.proofs.names.are_distinct.Given as goal
 
 abbrev pub invariant-loop-name : goal.invariant-loop-name
