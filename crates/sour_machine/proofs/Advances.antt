@@ -34,7 +34,7 @@ use Rattle.sour_machine.proofs.Scopes.{All-at, scope_of-empty}
 use Rattle.sour_machine.proofs.Jumps.{GoesTo-at, Contains-followers, EndsInTerminator-next_places, Contains-one}
 use Rattle.sour_machine.proofs.Instructions.{turns_branch}
 use Rattle.sour_machine.proofs.Measure.{before, before-turn, before-line}
-use Rattle.sour_machine.specs.Run.{RunView, GoesOn, Tells, IsAtRest}
+use Rattle.sour_machine.specs.Run.{RunView, GoesOn, Tells, IsAtRest, IsPrint, StandsAtPrint}
 
 -- clauses on a result, by the test of its variant
 pub OnOk-at : {X E : Type 0} {P : Type 0} (outcome : Result X E) → is_err outcome ≡ false → OnOk outcome P → P
@@ -151,6 +151,21 @@ GoesOn-wanting program input old mid new going same on = record {
   entered = λ was. refl;
   before_main = λ outside. cc;
 }
+
+-- and the run at the `print` that wanted it
+pub StandsAtPrint-wanting : (program : ProgramView) (input : List Literal) (mid new : Moment) (line : Line) (jump : Jump) → IsAt program mid line jump → IsPrint line.instr → new ≡ mid
+    → StandsAtPrint (run_at program input true (record new { end = Memory }))
+StandsAtPrint-wanting program input mid new line jump at prints same =
+    let At : Moment → Type 0 = λ moment. StandsAtPrint (run_at program input true (record moment { end = Memory })) in
+    subst At (sym same) (record {
+      frame = main_frame program mid.place mid.env;
+      others = [];
+      line = line;
+      behind = drop (mid.place + 1) (main_lines program);
+      top = refl;
+      stands = (IsLineAt-place program mid line jump at).stands;
+      prints = prints;
+    })
 
 -- entering main is no step
 pub GoesOn-entering : (program : ProgramView) (input : List Literal) (entered : Bool) (old new : Moment)

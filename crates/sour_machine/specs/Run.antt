@@ -1,7 +1,13 @@
-use Rattle.std.specs.Prelude.{◌≡◌, ◌⊎◌, ℕ, List, Bool, false, None, IsSome, IsTrue}
+use Rattle.std.specs.Prelude.{◌≡◌, ◌⊎◌, ℕ, List, ◌∷◌, Bool, false, None, IsSome, IsTrue}
+use Rattle.sour_syntax.specs.declared.expression.Expr.{Expr}
+use Rattle.sour_syntax.specs.declared.instruction.Instr.{Instr}
+use Rattle.sour_syntax.specs.declared.instruction.Instr.TheVariants.{Print}
+use Rattle.sour_syntax.specs.declared.instruction.Line.{Line}
 use Rattle.sour_syntax.specs.declared.literal.Literal.{Literal}
+use Rattle.sour_syntax.specs.Labels.{from_label}
 use Rattle.sour_syntax.specs.Program.{ProgramView}
-use Rattle.sour_semantics.specs.State.{State}
+use Rattle.sour_semantics.specs.State.{Frame, State}
+use Rattle.sour_semantics.specs.Step.{lines_of}
 use Rattle.sour_semantics.specs.Run.{text_run, TakesTurn, IsAtBudget}
 use Rattle.sour_machine.specs.declared.run.Advance.{Advance}
 use Rattle.sour_machine.specs.declared.run.Advance.TheVariants.{Ended, MoreTurns, Memory}
@@ -42,3 +48,18 @@ Tells Memory budget run = IsTrue run.wanting
 abbrev pub IsAtRest : RunView → Type 0
 IsAtRest run =
     IsTrue run.wanting ⊎ (IsTrue run.entered × (IsSome run.state.ending ⊎ TakesTurn run.program run.state))
+
+-- the instruction is a `print`
+pub record IsPrint (instr : Instr) : Type 0 where
+  pub expr : Expr
+  pub is : instr ≡ Print expr
+
+-- the line at which the top frame of the run stands is a `print`
+pub record StandsAtPrint (run : RunView) : Type 0 where
+  pub frame : Frame
+  pub others : List Frame
+  pub line : Line
+  pub behind : List Line
+  pub top : run.state.frames ≡ frame ∷ others
+  pub stands : from_label frame.label (lines_of run.program frame.code) ≡ line ∷ behind
+  pub prints : IsPrint line.instr

@@ -9,6 +9,7 @@ ghost use Rattle.sour_semantics.specs.Step.{branches};
 ghost use Rattle.sour_semantics.specs.Validity.{scope_of};
 ghost use Rattle.sour_machine.specs.Scope.{HasValues};
 ghost use Rattle.sour_machine.specs.Moment.{main_lines, state_at};
+ghost use Rattle.sour_machine.specs.Run.{IsPrint};
 ghost use Rattle.sour_machine.specs.Instruction.{IsReady, ActsAs, next_places, ComesTo, AlwaysTakesTurn, NeverTakesTurn};
 
 use crate::evaluation::eval;
@@ -34,8 +35,8 @@ pub(crate) fn takes_turn(instr: &Instr) -> bool
     }
 }
 
-/// Carries out one instruction of a run on this input, or none where memory is wanting. The jump has the
-/// places of the labels that the instruction names.
+/// Carries out one instruction of a run on this input, or none where memory is wanting, which only a
+/// `print` takes. The jump has the places of the labels that the instruction names.
 ///
 /// Most instructions set a variable or jump. The functions of the others aren't inlined, so the loop stays
 /// small.
@@ -54,6 +55,7 @@ pub(crate) fn act(
     ensures comes { OnOk result (ComesTo instr.now (next_places instr.now jump moment.old.place) moment.old.env moment.new moment.new.end) }
     ensures within { moment.new.read ≤ length input.now }
     ensures err { OnErr result (moment.new ≡ moment.old) }
+    ensures wants { OnErr result (IsPrint instr.now) }
 {
     match instr {
         Instr::Var(x, expr) | Instr::Assign(x, expr) => set(moment, *x, expr),

@@ -1,7 +1,7 @@
 ghost use Rattle.std.specs.Prelude.{◌≡◌, ◌≢◌, ◌≤◌, List, true};
 ghost use Rattle.sour_syntax.specs.declared.literal.Literal.{Literal};
 ghost use Rattle.sour_machine.specs.Moment.{main_body, run_at, Stands};
-ghost use Rattle.sour_machine.specs.Run.{GoesOn, Tells};
+ghost use Rattle.sour_machine.specs.Run.{GoesOn, Tells, StandsAtPrint};
 
 use crate::act::{act, takes_turn};
 use crate::moment::Moment;
@@ -36,6 +36,7 @@ pub(crate) fn advance(
     ensures within { moment.new.turns ≤ budget }
     ensures tells { Tells result budget (run_at program.now input.now true moment.new) }
     ensures stands { Stands program.now input.now moment.new }
+    ensures memory { result ≡ Advance.Memory → StandsAtPrint (run_at program.now input.now true moment.new) }
 {
     let body = body_of_main(program);
     let lines = body.lines();

@@ -1,7 +1,7 @@
-ghost use Rattle.std.specs.Prelude.{◌≡◌, ◌≢◌, ◌+◌, ◌≤◌, ◌↔◌, true, false, length, IsTrue, IfOk, if◌then◌else◌};
+ghost use Rattle.std.specs.Prelude.{◌≡◌, ◌≢◌, ◌+◌, ◌≤◌, ◌↔◌, ◌⊎◌, true, false, length, IsTrue, IfOk, if◌then◌else◌};
 ghost use Rattle.sour_semantics.specs.Run.{start};
 ghost use Rattle.sour_machine.specs.End.{ending_of};
-ghost use Rattle.sour_machine.specs.Run.{GoesOn, Tells, IsAtRest};
+ghost use Rattle.sour_machine.specs.Run.{GoesOn, Tells, IsAtRest, StandsAtPrint};
 
 use crate::advance::{advance, body_of_main};
 use crate::env::Env;
@@ -96,6 +96,9 @@ impl Run {
 
         // Want of memory is for good.
         ensures wanting { IsTrue self.old.wanting → self.new ≡ self.old }
+
+        // No other instruction than `print` takes memory.
+        ensures memory { result ≡ Advance.Memory → IsTrue self.old.wanting ⊎ StandsAtPrint self.new }
     {
         if let End::Memory = self.moment.end {
             return Advance::Memory;

@@ -1,5 +1,5 @@
 //! Values of expressions, and runs of small programs.
-ghost use Rattle.std.specs.Prelude.{◌≤◌};
+ghost use Rattle.std.specs.Prelude.{◌≡◌, ◌≤◌};
 
 use crate::{Advance, End, Env, Report, Run, eval};
 use sour_syntax::{
@@ -174,21 +174,30 @@ fn program_of(
     variables: Names,
     lines: List<Line>,
 ) -> Result<Option<Arc<Program>>, AllocError> {
-    let body = match Body::checked(alloc, FunId(0), 0, variables, lines)? {
-        Some(body) => body,
-        None => return Ok(None),
-    };
+    match Body::checked(alloc, FunId(0), 0, variables, lines)? {
+        Some(body) => Ok(Some(program_of_body(alloc, body)?)),
+        None => Ok(None),
+    }
+}
+
+fn program_of_body(alloc: Global, body: Body) -> Result<Arc<Program>, AllocError>
+    requires function { body.function.0 ≡ 0 }
+    requires parameters { body.parameters ≡ 0 }
+{
+    // What these two ensure is all that holds of every body.
+    let _ = body.lines();
+    let _ = body.parameters();
     let version = Version {
         name: Label::from_bytes(Vec::new(alloc)),
         body,
     };
     let main = Function {
-        name: Label::from_bytes(Vec::new(alloc)),
+        name: Label::from_bytes(Vec::from_slice(alloc, b"main")?),
         versions: List::from_vec(vec![in alloc; version]?),
     };
     let functions = List::from_vec(vec![in alloc; main]?);
     let program = Program::of_functions(functions, FunId(0));
-    Ok(Some(Arc::new(alloc, program)?))
+    Ok(Arc::new(alloc, program)?)
 }
 
 /// A program that prints a value and then does this instruction, which has to be a terminator.

@@ -5,7 +5,7 @@ use Rattle.sour_syntax.specs.BodyView.{BodyView}
 use Rattle.sour_syntax.specs.Scopes.{HasScopes, MentionsItsVariables}
 use Rattle.sour_machine.specs.Instruction.{AlwaysTakesTurn, NeverTakesTurn, next_places}
 use Rattle.sour_machine.specs.Moment.{main_lines}
-use Rattle.sour_machine.proofs.Advances.{OnOk-at, IsAt-lines, IsReady-line, GoesOn-act, Tells-more, turns-always, turns-never, before-always, before-never, Stands-act, has_memory-act}
+use Rattle.sour_machine.proofs.Advances.{OnOk-at, OnErr-at, StandsAtPrint-wanting, IsAt-lines, IsReady-line, GoesOn-act, Tells-more, turns-always, turns-never, before-always, before-never, Stands-act, has_memory-act}
 use Rattle.sour_machine.proofs.Jumps.{length-GoTo}
 use Rattle.sour_machine.proofs.Measure.{before}
 use Rattle.sour_machine.proofs.advance.advance.Goals.{else-takes_turn-via-then-takes_turn+else-moment-budget, else-takes_turn-via-else-takes_turn}
@@ -44,6 +44,21 @@ returns-then-moment-budget-clause-tells c =
     Tells-more program c.args.input.now moment c.args.budget line jump at
     (when_true (AlwaysTakesTurn line.instr) (NeverTakesTurn line.instr) c.if-takes_turn.true c.takes_turn.ensures)
     (omega arith)
+
+pub returns-then-is_err-clause-memory : goal.returns-then-is_err-clause-memory
+returns-then-is_err-clause-memory c = λ wanting.
+    let program = c.args.program.now in
+    let lines = c.lines-lines.result.now in
+    let jumps = c.jumps-jumps.result.now in
+    let moment = c.loop-moment.moment in
+    let stands = c.loop-moment.invariant.stands.at_line c.in-Cut.is in
+    let at = IsAt-lines program moment c.body_of_main-body.result.now lines jumps c.index-lines-moment.result none c.body_of_main-body.ensures.body c.lines-lines.ensures.value c.lines-lines.ensures.labels
+    c.lines-lines.ensures.end c.jumps-jumps.ensures c.in-Cut.is stands in
+    let line = get_or lines moment.place c.index-lines-moment.result in
+    let jump = get_or jumps moment.place none in
+    let err = sym c.is_err.ensures.value ∙ c.if-is_err.true in
+    StandsAtPrint-wanting program c.args.input.now moment c.act.new.moment line jump at
+    (OnErr-at c.act.result err c.act.ensures.wants) (OnErr-at c.act.result err c.act.ensures.err)
 
 pub act-requires-clause-ready : goal.act-requires-clause-ready
 act-requires-clause-ready c =
