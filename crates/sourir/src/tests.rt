@@ -51,35 +51,57 @@ fn expect(
 
 #[test]
 fn words_ask_for_a_run(rt: HostRuntime) -> Result<(), Fail> {
-    for words in [
-        ["run"].as_slice(),
-        ["run", "--budget", "1"].as_slice(),
-        ["run", "--budget", "00000010"].as_slice(),
-        ["run", "--budget", "10000000"].as_slice(),
-    ] {
-        expect(&rt, rt.alloc(), words, SEVEN, SEVEN_BLOCK, 0)?;
+    expect(&rt, rt.alloc(), &["run"], SEVEN, SEVEN_BLOCK, 0)?;
+    for number in ["1", "00000010", "10000000"] {
+        expect(
+            &rt,
+            rt.alloc(),
+            &["run", "--budget", number],
+            SEVEN,
+            SEVEN_BLOCK,
+            0,
+        )?;
+    }
+    Ok(())
+}
+
+#[test]
+fn a_budget_is_a_number_within_its_limits(rt: HostRuntime) -> Result<(), Fail> {
+    for number in ["0", "10000001", "000000010", "+5", "-1", "5x", ""] {
+        expect(
+            &rt,
+            rt.alloc(),
+            &["run", "--budget", number],
+            SEVEN,
+            "fault words\n",
+            2,
+        )?;
     }
     Ok(())
 }
 
 #[test]
 fn other_words_ask_for_nothing(rt: HostRuntime) -> Result<(), Fail> {
-    for words in [
-        [].as_slice(),
-        ["runn"].as_slice(),
-        ["run", "run"].as_slice(),
-        ["run", "--budget"].as_slice(),
-        ["run", "--budget", "0"].as_slice(),
-        ["run", "--budget", "10000001"].as_slice(),
-        ["run", "--budget", "000000010"].as_slice(),
-        ["run", "--budget", "+5"].as_slice(),
-        ["run", "--budget", ""].as_slice(),
-        ["run", "--budgets", "5"].as_slice(),
-        ["--budget", "5", "run"].as_slice(),
-        ["run", "--budget", "5", "--budget", "5"].as_slice(),
-    ] {
-        expect(&rt, rt.alloc(), words, SEVEN, "fault words\n", 2)?;
+    for word in ["runn", "check", "--budget", ""] {
+        expect(&rt, rt.alloc(), &[word], SEVEN, "fault words\n", 2)?;
+        expect(&rt, rt.alloc(), &["run", word], SEVEN, "fault words\n", 2)?;
+        expect(
+            &rt,
+            rt.alloc(),
+            &[word, "5", "run"],
+            SEVEN,
+            "fault words\n",
+            2,
+        )?;
     }
+    Ok(())
+}
+
+#[test]
+fn no_words_and_too_many_ask_for_nothing(rt: HostRuntime) -> Result<(), Fail> {
+    expect(&rt, rt.alloc(), &[], SEVEN, "fault words\n", 2)?;
+    let twice = ["run", "--budget", "5", "--budget", "5"];
+    expect(&rt, rt.alloc(), &twice, SEVEN, "fault words\n", 2)?;
     Ok(())
 }
 
