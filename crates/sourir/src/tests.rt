@@ -31,7 +31,25 @@ fn ample_sink(alloc: Global) -> Result<MemorySink, AllocError> {
     MemorySink::new(alloc, 65536, 65536, Vec::new(alloc))
 }
 
-/// Runs the program over a text in pieces of 10 bytes, and compares what it writes and its status.
+/// Runs the program with these words over a text in pieces of 10 bytes, and compares what it writes and its
+/// status.
+fn expect_of_strings(
+    rt: &impl Abort,
+    alloc: Global,
+    words: &[String],
+    text: &str,
+    written: &str,
+    status: u8,
+) -> Result<(), Fail> {
+    let mut source = MemorySource::new(bytes(alloc, text)?, 10, Vec::new(alloc));
+    let mut sink = ample_sink(alloc)?;
+    let given = sourir(alloc, words, &mut source, &mut sink);
+    assert_eq!(rt; sink.taken(), written.as_bytes(), "{text}");
+    assert_eq!(rt; given, status, "{text}");
+    Ok(())
+}
+
+/// The same, of words that are written here.
 fn expect(
     rt: &impl Abort,
     alloc: Global,
@@ -41,12 +59,7 @@ fn expect(
     status: u8,
 ) -> Result<(), Fail> {
     let strings = strings(alloc, words)?;
-    let mut source = MemorySource::new(bytes(alloc, text)?, 10, Vec::new(alloc));
-    let mut sink = ample_sink(alloc)?;
-    let given = sourir(alloc, strings.as_slice(), &mut source, &mut sink);
-    assert_eq!(rt; sink.taken(), written.as_bytes(), "{text}");
-    assert_eq!(rt; given, status, "{text}");
-    Ok(())
+    expect_of_strings(rt, alloc, strings.as_slice(), text, written, status)
 }
 
 #[test]
@@ -98,11 +111,9 @@ fn other_words_ask_for_nothing(rt: HostRuntime) -> Result<(), Fail> {
 }
 
 #[test]
-fn no_words_and_too_many_ask_for_nothing(rt: HostRuntime) -> Result<(), Fail> {
-    expect(&rt, rt.alloc(), &[], SEVEN, "fault words\n", 2)?;
-    let twice = ["run", "--budget", "5", "--budget", "5"];
-    expect(&rt, rt.alloc(), &twice, SEVEN, "fault words\n", 2)?;
-    Ok(())
+fn no_words_ask_for_nothing(rt: HostRuntime) -> Result<(), Fail> {
+    let words = Vec::new(rt.alloc());
+    expect_of_strings(&rt, rt.alloc(), words.as_slice(), SEVEN, "fault words\n", 2)
 }
 
 #[test]
