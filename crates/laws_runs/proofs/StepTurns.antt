@@ -1,19 +1,23 @@
 -- How many turns a step takes.
-use Rattle.std.proofs.Common.{◌+◌, ◌≤◌, ℕ, Bool, true, false, List, [], ◌∷◌, ◌++◌, Option, None, Some, Result, Ok, Err, cond, ltb, length, arith}
+use Rattle.std.proofs.Common.{◌+◌, ◌≤◌, ℕ, ℤ, pos, negsuc, Bool, true, false, List, [], ◌∷◌, ◌++◌, Option, None, Some, Result, Ok, Err, cond, ltb, length, nat_eq, replicate, slice_get, arith}
 use Rattle.sour_syntax.specs.declared.instruction.Instr.{Instr}
-use Rattle.sour_syntax.specs.declared.instruction.Instr.TheVariants.{Var, Drop, Assign, Print, Read, Branch, Goto, Return, Stop}
+use Rattle.sour_syntax.specs.declared.instruction.Instr.TheVariants.{Var, Drop, Assign, ArrayLength, ArrayList, Store, Print, Read, Branch, Goto, Call, Return, Stop}
+use Rattle.sour_syntax.specs.declared.expression.Simple.TheVariants as simple
 use Rattle.sour_syntax.specs.declared.instruction.Line.{Line}
+use Rattle.sour_syntax.specs.declared.literal.ArrayId.{ArrayId}
+use Rattle.sour_syntax.specs.declared.literal.FunId.{FunId}
 use Rattle.sour_syntax.specs.declared.literal.Literal.{Literal}
-use Rattle.sour_syntax.specs.declared.literal.Literal.TheVariants.{Number, Truth, Nil}
+use Rattle.sour_syntax.specs.declared.literal.Literal.TheVariants.{Nil}
 use Rattle.sour_syntax.specs.declared.literal.Value.{Value}
-use Rattle.sour_syntax.specs.declared.literal.Value.TheVariants.{Plain}
+use Rattle.sour_syntax.specs.declared.literal.Value.TheVariants.{Plain, Array}
 use Rattle.sour_syntax.specs.declared.literal.VarId.{VarId}
+use Rattle.sour_syntax.specs.declared.program.Version.{Version}
 use Rattle.sour_syntax.specs.declared.trap.Trap.{Trap}
 use Rattle.sour_syntax.specs.Labels.{from_label, first_label}
 use Rattle.sour_syntax.specs.Program.{ProgramView}
-use Rattle.sour_semantics.specs.State.{Frame, State, Ending}
-use Rattle.sour_semantics.specs.Evaluation.{eval}
-use Rattle.sour_semantics.specs.Step.{Choice, step, given, reads, prints, output_limit, takes_turn, branches, returns, resumes, act, act_first, act_top, unless_ended, lines_of}
+use Rattle.sour_semantics.specs.State.{Frame, FrameCode, State, Ending}
+use Rattle.sour_semantics.specs.Evaluation.{number_in, truth_in, function_in, operand, eval, eval_each}
+use Rattle.sour_semantics.specs.Step.{Choice, Entry, step, version_of_code, given, reads, makes, makes_empty, cell_limit, count_heap, writes, writes_array, writes_cell, prints, output_limit, takes_turn, branches, entered_code, enters, calls, returns, resumes, act, act_first, act_top, unless_ended, lines_of}
 
 -- from s to t one turn was taken, or none
 pub record Near (s t : State) : Type 0 where
@@ -29,8 +33,8 @@ Near-turn : (s : State) → Near s (takes_turn s)
 Near-turn s = record { least = omega arith; most = omega arith }
 
 -- whether or not a value comes
-Near-given : (s : State) (r : Result Value Trap) (onward : Value → State) (other : State)
-    → ((value : Value) → Near s (onward value)) → Near s other → Near s (given r onward other)
+Near-given : {A : Type 0} (s : State) (r : Result A Trap) (onward : A → State) (other : State)
+    → ((value : A) → Near s (onward value)) → Near s other → Near s (given r onward other)
 Near-given s (Ok value) onward other ok err = ok value
 Near-given s (Err trap) onward other ok err = record { least = err.least; most = err.most }
 
@@ -63,12 +67,62 @@ Near-reads : (x : VarId) (rest : List Literal) (next : List ℕ) (s : State) →
 Near-reads x [] next s = record { least = omega arith; most = omega arith }
 Near-reads x (literal ∷ rest) next s = record { least = omega arith; most = omega arith }
 
+-- a new array takes no turn
+Near-makes : (x : VarId) (cells : List Value) (next : List ℕ) (s : State) → Near s (makes x cells next s)
+Near-makes x cells next s =
+    Near-cond s _ _ (ltb cell_limit (count_heap s.heap + length cells))
+    (record { least = omega arith; most = omega arith })
+    (record { least = omega arith; most = omega arith })
+
+-- nor does a new array of a length
+Near-makes_empty : (x : VarId) (count : Option ℤ) (next : List ℕ) (s : State) → Near s (makes_empty x count next s)
+Near-makes_empty x None next s = record { least = omega arith; most = omega arith }
+Near-makes_empty x (Some (negsuc n)) next s = record { least = omega arith; most = omega arith }
+Near-makes_empty x (Some (pos count)) next s = Near-makes x (replicate count (Plain Nil)) next s
+
+-- a store at an index takes no turn
+Near-writes_cell : (a : ArrayId) (cells : List Value) (index : ℤ) (value : Value) (next : List ℕ) (s : State)
+    → Near s (writes_cell a cells index value next s)
+Near-writes_cell a cells (negsuc n) value next s = record { least = omega arith; most = omega arith }
+Near-writes_cell a cells (pos place) value next s =
+    Near-cond s _ _ (ltb place (length cells))
+    (record { least = omega arith; most = omega arith })
+    (record { least = omega arith; most = omega arith })
+
+-- nor does one into an array, whether or not it is there
+Near-writes_array : (a : ArrayId) (cells : Option (List Value)) (index : Option ℤ) (value : Value) (next : List ℕ) (s : State)
+    → Near s (writes_array a cells index value next s)
+Near-writes_array a None index value next s = record { least = omega arith; most = omega arith }
+Near-writes_array a (Some cells) None value next s = record { least = omega arith; most = omega arith }
+Near-writes_array a (Some cells) (Some index) value next s = Near-writes_cell a cells index value next s
+
+-- nor does any store
+Near-writes : (array : Value) (index : Option ℤ) (value : Value) (next : List ℕ) (s : State)
+    → Near s (writes array index value next s)
+Near-writes (Plain literal) index value next s = record { least = omega arith; most = omega arith }
+Near-writes (Array a) index value next s = Near-writes_array a (slice_get s.heap a.0) index value next s
+
 -- a branch takes the turn that was counted before it
-Near-branches : (value : Value) (first second : List ℕ) (s : State) → Near s (branches value first second (takes_turn s))
-Near-branches (Plain (Truth true)) first second s = record { least = omega arith; most = omega arith }
-Near-branches (Plain (Truth false)) first second s = record { least = omega arith; most = omega arith }
-Near-branches (Plain (Number number)) first second s = record { least = omega arith; most = omega arith }
-Near-branches (Plain Nil) first second s = record { least = omega arith; most = omega arith }
+Near-branches : (value : Option Bool) (first second : List ℕ) (s : State) → Near s (branches value first second (takes_turn s))
+Near-branches None first second s = record { least = omega arith; most = omega arith }
+Near-branches (Some true) first second s = record { least = omega arith; most = omega arith }
+Near-branches (Some false) first second s = record { least = omega arith; most = omega arith }
+
+-- a version is entered in the turn that was counted before it
+Near-enters : (x : VarId) (code : FrameCode) (version : Option Version) (values : List Value) (next : List ℕ) (s : State)
+    → Near s (enters x code version values next (takes_turn s))
+Near-enters x code None values next s = record { least = omega arith; most = omega arith }
+Near-enters x code (Some version) values next s =
+    Near-cond s _ _ (nat_eq (length values) version.body.parameters)
+    (record { least = omega arith; most = omega arith })
+    (record { least = omega arith; most = omega arith })
+
+-- so is a function called
+Near-calls : (program : ProgramView) (entry : Entry) (x : VarId) (f : Option FunId) (values : List Value) (next : List ℕ) (s : State)
+    → Near s (calls program entry x f values next (takes_turn s))
+Near-calls program entry x None values next s = record { least = omega arith; most = omega arith }
+Near-calls program entry x (Some f) values next s =
+    Near-enters x (entered_code entry f) (version_of_code program (entered_code entry f)) values next s
 
 -- an instruction takes one turn or none
 Near-act : (program : ProgramView) (choice : Choice) (frame : Frame) (instr : Instr) (next : List ℕ) (s : State)
@@ -78,12 +132,22 @@ Near-act program choice frame (Var x e) next s =
 Near-act program choice frame (Drop x) next s = record { least = omega arith; most = omega arith }
 Near-act program choice frame (Assign x e) next s =
     Near-given s (eval frame.environment s.heap e) _ s (λ value. record { least = omega arith; most = omega arith }) (Near-same s)
+Near-act program choice frame (ArrayLength x e) next s =
+    Near-given s (eval frame.environment s.heap e) _ s (λ value. Near-makes_empty x (number_in value) next s) (Near-same s)
+Near-act program choice frame (ArrayList x es) next s =
+    Near-given s (eval_each frame.environment s.heap es) _ s (λ cells. Near-makes x cells next s) (Near-same s)
+Near-act program choice frame (Store x index e) next s =
+    Near-given s (eval frame.environment s.heap e) _ s
+    (λ value. Near-writes (operand frame.environment (simple.Var x)) (number_in (operand frame.environment index)) value next s) (Near-same s)
 Near-act program choice frame (Read x) next s = Near-reads x s.rest next s
 Near-act program choice frame (Print e) next s =
     Near-given s (eval frame.environment s.heap e) _ s (λ value. Near-prints _ next s) (Near-same s)
 Near-act program choice frame (Branch e first second) next s =
-    Near-given s (eval frame.environment s.heap e) _ (takes_turn s) (λ value. Near-branches value first second s) (Near-turn s)
+    Near-given s (eval frame.environment s.heap e) _ (takes_turn s) (λ value. Near-branches (truth_in value) first second s) (Near-turn s)
 Near-act program choice frame (Goto label) next s = record { least = omega arith; most = omega arith }
+Near-act program choice frame (Call x callee es) next s =
+    Near-given s (eval_each frame.environment s.heap es) _ (takes_turn s)
+    (λ values. Near-calls program choice.entry x (function_in (operand frame.environment callee)) values next s) (Near-turn s)
 Near-act program choice frame (Return e) next s =
     Near-given s (eval frame.environment s.heap e) _ (takes_turn s) (λ value. Near-returns value s.frames s) (Near-turn s)
 Near-act program choice frame Stop next s = record { least = omega arith; most = omega arith }
@@ -109,3 +173,8 @@ Near-unless_ended (Some ending) s t h = Near-same s
 -- a step takes one turn or none
 pub Near-step : (program : ProgramView) (choice : Choice) (s : State) → Near s (step program choice s)
 Near-step program choice s = Near-unless_ended s.ending s _ (Near-act_top program choice s.frames s)
+
+-- the same as two facts
+pub turns_of_step : (program : ProgramView) (choice : Choice) (s : State)
+    → (s.turns ≤ (step program choice s).turns) × ((step program choice s).turns ≤ s.turns + 1)
+turns_of_step program choice s = let near = Near-step program choice s in (near.least, near.most)

@@ -1,12 +1,10 @@
 -- What holds of every run of a text, over the definitions alone.
-use Rattle.std.specs.Prelude.{◌≡◌, ◌+◌, ◌≤◌, ℕ, List, None, Some, length}
+use Rattle.std.specs.Prelude.{◌≡◌, ◌+◌, ◌≤◌, ℕ, suc, List, None}
 use Rattle.sour_syntax.specs.declared.literal.Literal.{Literal}
-use Rattle.sour_syntax.specs.declared.program.Version.{Version}
-use Rattle.sour_syntax.specs.Program.{ProgramView}
-use Rattle.sour_semantics.specs.State.{FrameCode, State}
-use Rattle.sour_semantics.specs.Step.{Choice, step, version_of_code}
+use Rattle.sour_syntax.specs.Program.{ProgramView, IsProgram}
+use Rattle.sour_semantics.specs.State.{State}
+use Rattle.sour_semantics.specs.Step.{Choice, step}
 use Rattle.sour_semantics.specs.Run.{text_run, IsAtBudget, TextAt}
-use Rattle.sour_semantics.specs.Validity.{IsSound}
 
 -- a step takes one turn or none
 abbrev pub TakesAtMostOneTurn : Type 0
@@ -29,12 +27,7 @@ abbrev pub AdvancesAdd : Type 0
 AdvancesAdd = (program : ProgramView) (a b : ℕ) (s t u v : State)
     → GoesOnBy program a s t → GoesOnBy program b t u → GoesOnBy program (a + b) s v → u ≡ v
 
--- no version has more lines than a text may give it
-abbrev pub HasShortVersions : ProgramView → Type 0
-HasShortVersions program = (code : FrameCode) (version : Version)
-    → version_of_code program code ≡ Some version → length version.body.lines ≤ 4096
-
--- no more steps than this follow one another without a turn: 33 bodies of 4096 lines each, since an exit may lead through so many
+-- no more steps than this follow one another without a turn, the last of them from a state that hasn't ended: 33 bodies of 4096 lines each, since an exit may lead through so many
 abbrev pub TurnsComeSoon : Type 0
-TurnsComeSoon = (program : ProgramView) (steps : ℕ) (s : State) → IsSound program → HasShortVersions program
-    → (text_run program steps s).ending ≡ None → (text_run program steps s).turns ≡ s.turns → steps ≤ 135168
+TurnsComeSoon = (program : ProgramView) (steps : ℕ) (s : State) → IsProgram program
+    → (text_run program steps s).ending ≡ None → (text_run program (suc steps) s).turns ≡ s.turns → suc steps ≤ 135168

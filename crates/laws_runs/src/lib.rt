@@ -19,8 +19,7 @@ pub fn advances_add()
     ensures { AdvancesAdd }
 {}
 
-/// In a run of a checked program whose versions have at most 4,096 lines, no more than 135,168 steps
-/// follow one another without a turn.
+/// In a run of a checked program no more than 135,168 steps follow one another without a turn.
 pub fn turns_come_soon()
     ensures { TurnsComeSoon }
 {}

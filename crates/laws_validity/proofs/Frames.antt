@@ -1,21 +1,24 @@
 -- How a valid frame goes further.
-use Rattle.std.proofs.Common.{◌≡◌, ℕ, suc, List, true, Option, None, Some, set, sym, ap, ◌∙◌, subst, Contains}
+use Rattle.std.proofs.Common.{◌≡◌, ◌≤◌, ◌-◌, ℕ, zero, suc, List, [], ◌∷◌, ◌++◌, true, false, Option, None, Some, set, map, length, replicate, refl, sym, ap, ◌∙◌, subst, Contains}
 use Rattle.std.specs.Prelude.{is_some}
 use Rattle.std.specs.List.{AllByRecursion, slice_get}
 use Rattle.std.proofs.lemmas.List.{map-set, set-get_or}
-use Rattle.std.proofs.lemmas.List.Elements.{All-from_recursion, recursion_from_All, All-set}
 use Rattle.std.proofs.lemmas.Option.{get_or_from_slice_get}
 use Rattle.sour_syntax.specs.declared.instruction.Instr.{Instr}
 use Rattle.sour_syntax.specs.declared.instruction.Line.{Line}
 use Rattle.sour_syntax.specs.declared.literal.Value.{Value}
-use Rattle.sour_syntax.specs.Body.{IsBody}
+use Rattle.sour_syntax.specs.declared.program.Version.{Version}
 use Rattle.sour_syntax.specs.BodyView.{BodyView}
 use Rattle.sour_syntax.specs.Labels.{first_label}
-use Rattle.sour_syntax.specs.Program.{ProgramView}
-use Rattle.sour_syntax.specs.Scopes.{Scope, scope_after, followers, IsLineAt, HasScope, IsFine}
-use Rattle.sour_semantics.specs.State.{Environment, Frame}
-use Rattle.sour_semantics.specs.Step.{body_of_version, body_of}
-use Rattle.sour_semantics.specs.Validity.{IsValidLiteral, IsValidValue, IsValidKept, IsValidFrame, IsSound, literals_of, scope_of, scope_with}
+use Rattle.sour_syntax.specs.Literals.{literals_of}
+use Rattle.sour_syntax.specs.Program.{ProgramView, IsProgram}
+use Rattle.sour_syntax.specs.Scopes.{Scope, scope_after, followers, first_scope, IsLineAt, HasScope, IsFine}
+use Rattle.sour_semantics.specs.State.{Environment, Frame, FrameCode}
+use Rattle.sour_semantics.specs.Step.{version_of_code, first_environment, entered_frame}
+use Rattle.sour_semantics.specs.Validity.{IsValue, IsKept, IsValidFrame, scope_of, scope_with}
+use Rattle.laws_validity.proofs.Lists.{AllByRecursion-weaker, AllByRecursion-append, AllByRecursion-set, AllByRecursion-replicate}
+use Rattle.laws_validity.proofs.Versions.{IsVersionOf, IsVersionOf-code}
+use Rattle.laws_validity.proofs.Values.{IsLiteralOf, IsKept-more}
 use Rattle.laws_validity.proofs.Reached.{All-from_label}
 
 -- a value put where there is one already leaves the same variables with values
@@ -23,68 +26,79 @@ pub set-same : (scope : Scope) (place : ℕ) → slice_get scope place ≡ Some 
 set-same scope place found =
     ap (set scope place) (sym (get_or_from_slice_get scope place true true found)) ∙ set-get_or scope place true
 
--- a row stays valid when a variable gets a valid value, or none
-pub All-kept : (environment : Environment) (place : ℕ) (kept : Option Value) → AllByRecursion IsValidKept environment
-    → IsValidKept kept → AllByRecursion IsValidKept (set environment place kept)
-All-kept environment place kept all valid =
-    recursion_from_All IsValidKept (set environment place kept)
-    (All-set IsValidKept environment place kept valid (All-from_recursion IsValidKept environment all))
-
--- a body is one, and its literals are valid
-pub record IsSoundBody (body : BodyView) : Type 0 where
-  pub is : IsBody body
-  pub literals : AllByRecursion (λ (line : Line). AllByRecursion IsValidLiteral (literals_of line.instr)) body.lines
-
--- the body that a valid frame runs
-pub IsSoundBody-frame : (program : ProgramView) (frame : Frame) → IsSound program → IsValidFrame program frame
-    → IsSoundBody (body_of program frame.code)
-IsSoundBody-frame program frame sound valid =
-    let P : BodyView → Type 0 = IsSoundBody in
-    let version = sound.versions frame.code valid.version valid.runs in
-    subst P (sym (ap body_of_version valid.runs)) (record { is = version.body; literals = version.literals })
+-- a frame stays valid when there are more arrays
+pub IsValidFrame-more : (program : ProgramView) (few many : ℕ) → few ≤ many → (frame : Frame) → IsValidFrame program few frame
+    → IsValidFrame program many frame
+IsValidFrame-more program few many less frame valid = record {
+  version = valid.version;
+  runs = valid.runs;
+  count = valid.count;
+  path = valid.path;
+  values = AllByRecursion-weaker (IsKept (length program.functions) few) (IsKept (length program.functions) many)
+      (IsKept-more (length program.functions) few many less) frame.environment valid.values;
+}
 
 -- a frame goes to this label with this environment
 abbrev pub moved : Frame → List ℕ → Environment → Frame
 moved frame label environment = record frame { label = label; environment = environment }
 
+-- a frame stands at this label with this environment, and waits or doesn't
+abbrev pub standing : Frame → List ℕ → Environment → Option ℕ → Frame
+standing frame label environment waits = record frame { label = label; environment = environment; waits = waits }
+
 -- a frame that waits for nothing stands at an instruction, behind which is a line with this label
 pub record StandsBefore (program : ProgramView) (frame : Frame) (instr : Instr) (next : List ℕ) : Type 0 where
+  pub free : frame.waits ≡ None
   pub fine : IsFine instr (scope_of frame.environment)
-  pub literals : AllByRecursion IsValidLiteral (literals_of instr)
-  pub values : AllByRecursion IsValidKept frame.environment
-  pub onward : (label : List ℕ) (environment : Environment) → Contains (followers instr next) label
-      → scope_of environment ≡ scope_after instr (scope_of frame.environment) → AllByRecursion IsValidKept environment
-      → IsValidFrame program (moved frame label environment)
+  pub literals : AllByRecursion (IsLiteralOf program) (literals_of instr)
+  pub onward : (arrays : ℕ) (label : List ℕ) (environment : Environment) (waits : Option ℕ) → Contains (followers instr next) label
+      → scope_with waits (scope_of environment) ≡ scope_after instr (scope_of frame.environment)
+      → AllByRecursion (IsKept (length program.functions) arrays) environment
+      → IsValidFrame program arrays (standing frame label environment waits)
+
+-- a frame that waits for nothing has the scope of its environment
+free_scope : (waits : Option ℕ) (scope : Scope) → waits ≡ None → scope_with waits scope ≡ scope
+free_scope waits scope free = ap (λ (waits : Option ℕ). scope_with waits scope) free
 
 -- a valid frame stands before its instruction
-pub StandsBefore-frame : (program : ProgramView) (frame : Frame) (line : Line) (rest : List Line) → IsSound program
-    → IsValidFrame program frame → frame.waits ≡ None → IsLineAt (body_of program frame.code) frame.label line rest
+pub StandsBefore-frame : (program : ProgramView) (arrays : ℕ) (frame : Frame) (line : Line) (rest : List Line) → IsProgram program
+    → (valid : IsValidFrame program arrays frame) → frame.waits ≡ None → IsLineAt valid.version.body frame.label line rest
     → StandsBefore program frame line.instr (first_label rest)
-StandsBefore-frame program frame line rest sound valid none at =
-    let body : BodyView = body_of program frame.code in
-    let is : IsSoundBody body = IsSoundBody-frame program frame sound valid in
-    let plain = λ (environment : Environment). ap (λ (waits : Option ℕ). scope_with waits (scope_of environment)) none in
+StandsBefore-frame program arrays frame line rest is valid free at =
+    let body : BodyView = valid.version.body in
+    let one : IsVersionOf (length program.functions) valid.version = IsVersionOf-code program frame.code valid.version is valid.runs in
     let HasPath : Scope → Type 0 = HasScope body valid.count frame.label in
-    let path : HasScope body valid.count frame.label (scope_of frame.environment) = subst HasPath (plain frame.environment) valid.path in
+    let path : HasScope body valid.count frame.label (scope_of frame.environment) =
+    subst HasPath (free_scope frame.waits (scope_of frame.environment) free) valid.path in
     record {
-      fine = is.is.scopes.fine valid.count frame.label (scope_of frame.environment) line rest path at;
-      literals = All-from_label (λ (other : Line). AllByRecursion IsValidLiteral (literals_of other.instr)) frame.label body.lines line rest is.literals at.stands;
-      values = valid.values;
-      onward = λ label environment follows scope values. record {
+      free = free;
+      fine = one.is.body.scopes.fine valid.count frame.label (scope_of frame.environment) line rest path at;
+      literals = All-from_label (λ (other : Line). AllByRecursion (IsLiteralOf program) (literals_of other.instr))
+          frame.label body.lines line rest one.is.literals at.stands;
+      onward = λ arrays label environment waits follows scope values. record {
         version = valid.version;
         runs = valid.runs;
         count = suc valid.count;
-        path = (frame.label, scope_of frame.environment, line, rest, path, at, follows, plain environment ∙ scope);
+        path = (frame.label, scope_of frame.environment, line, rest, path, at, follows, scope);
         values = values;
       };
     }
 
+-- it goes to a label that may follow its instruction
+pub IsValidFrame-moved : (program : ProgramView) (arrays : ℕ) (frame : Frame) (instr : Instr) (next label : List ℕ)
+    (environment : Environment) → StandsBefore program frame instr next → Contains (followers instr next) label
+    → scope_of environment ≡ scope_after instr (scope_of frame.environment)
+    → AllByRecursion (IsKept (length program.functions) arrays) environment
+    → IsValidFrame program arrays (moved frame label environment)
+IsValidFrame-moved program arrays frame instr next label environment at follows scope values =
+    at.onward arrays label environment frame.waits follows (free_scope frame.waits (scope_of environment) at.free ∙ scope) values
+
 -- a frame that waits for a result goes on where it stands when it gets one
-pub IsValidFrame-resumed : (program : ProgramView) (frame : Frame) (variable : ℕ) (value : Value) → IsValidFrame program frame
-    → frame.waits ≡ Some variable → IsValidValue value
-    → IsValidFrame program (record frame { environment = set frame.environment variable (Some value); waits = None })
-IsValidFrame-resumed program frame variable value valid waits fine =
-    let HasPath : Scope → Type 0 = HasScope (body_of program frame.code) valid.count frame.label in
+pub IsValidFrame-resumed : (program : ProgramView) (arrays : ℕ) (frame : Frame) (variable : ℕ) (value : Value)
+    → IsValidFrame program arrays frame → frame.waits ≡ Some variable → IsValue (length program.functions) arrays value
+    → IsValidFrame program arrays (record frame { environment = set frame.environment variable (Some value); waits = None })
+IsValidFrame-resumed program arrays frame variable value valid waits is =
+    let HasPath : Scope → Type 0 = HasScope valid.version.body valid.count frame.label in
     let scope : scope_with frame.waits (scope_of frame.environment) ≡ scope_of (set frame.environment variable (Some value)) =
     ap (λ (waits : Option ℕ). scope_with waits (scope_of frame.environment)) waits
     ∙ sym (map-set is_some frame.environment variable (Some value)) in
@@ -93,5 +107,47 @@ IsValidFrame-resumed program frame variable value valid waits fine =
       runs = valid.runs;
       count = valid.count;
       path = subst HasPath scope valid.path;
-      values = All-kept frame.environment variable (Some value) valid.values fine;
+      values = AllByRecursion-set (IsKept (length program.functions) arrays) frame.environment variable (Some value) valid.values is;
+    }
+
+-- no variable of a row without values is in scope
+scope_of-none : (count : ℕ) → scope_of (replicate count None) ≡ replicate count false
+scope_of-none zero = refl
+scope_of-none (suc count) = ap (λ (scope : Scope). false ∷ scope) (scope_of-none count)
+
+-- a variable is in scope for each value with which a frame begins
+scope_of-values : (values : List Value) (count : ℕ)
+    → scope_of (map Some values ++ replicate count None) ≡ replicate (length values) true ++ replicate count false
+scope_of-values [] count = scope_of-none count
+scope_of-values (value ∷ values) count = ap (λ (scope : Scope). true ∷ scope) (scope_of-values values count)
+
+-- a frame begins with the scope of the parameters
+scope_of-first : (body : BodyView) (values : List Value) → length values ≡ body.parameters
+    → scope_of (first_environment body values) ≡ first_scope body
+scope_of-first body values same =
+    scope_of-values values (length body.variables - length values)
+    ∙ ap (λ (count : ℕ). replicate count true ++ replicate (length body.variables - count) false) same
+
+-- values with which a frame begins are kept as such
+are_kept : (functions arrays : ℕ) (values : List Value) → AllByRecursion (IsValue functions arrays) values
+    → AllByRecursion (IsKept functions arrays) (map Some values)
+are_kept functions arrays [] are = tt
+are_kept functions arrays (value ∷ values) are = (are.0, are_kept functions arrays values are.1)
+
+-- a frame that is entered with values for its parameters is valid
+pub IsValidFrame-entered : (program : ProgramView) (arrays : ℕ) (code : FrameCode) (version : Version) (values : List Value)
+    → version_of_code program code ≡ Some version → length values ≡ version.body.parameters
+    → AllByRecursion (IsValue (length program.functions) arrays) values
+    → IsValidFrame program arrays (entered_frame code version.body values)
+IsValidFrame-entered program arrays code version values runs same are =
+    let body : BodyView = version.body in
+    let Kept : Option Value → Type 0 = IsKept (length program.functions) arrays in
+    let empty : ℕ = length body.variables - length values in
+    record {
+      version = version;
+      runs = runs;
+      count = 0;
+      path = (refl, scope_of-first body values same);
+      values = AllByRecursion-append Kept (map Some values) (replicate empty None) (are_kept (length program.functions) arrays values are)
+          (AllByRecursion-replicate Kept empty None tt);
     }

@@ -1,5 +1,11 @@
+pub mod Lists
+pub mod Versions
 pub mod Values
+pub mod Heaps
 pub mod Reached
 pub mod Frames
+pub mod States
+pub mod Arrays
+pub mod Calls
 pub mod Steps
 pub mod Runs

@@ -5,7 +5,7 @@ use Rattle.std.specs.Str.{bytes_eq}
 use Rattle.std.proofs.lemmas.List.Elements.{All-from_recursion, All-contains, All-map}
 use Rattle.std.proofs.lemmas.Slice.Eq.{bytes_eq-Decides}
 use Rattle.sour_syntax.specs.declared.instruction.Instr.{Instr}
-use Rattle.sour_syntax.specs.declared.instruction.Instr.TheVariants.{Var, Drop, Assign, Print, Read, Branch, Goto, Return, Stop}
+use Rattle.sour_syntax.specs.declared.instruction.Instr.TheVariants.{Var, Drop, Assign, ArrayLength, ArrayList, Store, Print, Read, Branch, Goto, Call, Return, Stop}
 use Rattle.sour_syntax.specs.declared.instruction.Line.{Line}
 use Rattle.sour_syntax.specs.Body.{IsBody}
 use Rattle.sour_syntax.specs.BodyView.{BodyView}
@@ -91,10 +91,14 @@ followed : (instr : Instr) (next label : List ℕ) → Contains (followers instr
 followed (Var x e) next label contains = inl ((λ none. none), one next label contains)
 followed (Drop x) next label contains = inl ((λ none. none), one next label contains)
 followed (Assign x e) next label contains = inl ((λ none. none), one next label contains)
+followed (ArrayLength x e) next label contains = inl ((λ none. none), one next label contains)
+followed (ArrayList x es) next label contains = inl ((λ none. none), one next label contains)
+followed (Store x index e) next label contains = inl ((λ none. none), one next label contains)
 followed (Print e) next label contains = inl ((λ none. none), one next label contains)
 followed (Read x) next label contains = inl ((λ none. none), one next label contains)
 followed (Branch e a b) next label contains = inr contains
 followed (Goto a) next label contains = inr contains
+followed (Call x callee es) next label contains = inl ((λ none. none), one next label contains)
 followed (Return e) next label contains = inr contains
 followed Stop next label contains = inr contains
 

@@ -1,70 +1,59 @@
 -- A run of a checked program is valid throughout.
-use Rattle.std.proofs.Common.{◌≡◌, ◌-◌, ℕ, zero, suc, List, ◌∷◌, ◌++◌, true, false, Option, None, Some, length, replicate, refl, sym, ap, ◌∙◌, subst, arith}
+use Rattle.std.proofs.Common.{◌≡◌, ◌≤◌, ℕ, zero, suc, List, [], Option, Some, length, refl, sym, ap, ◌∙◌, subst, arith}
 use Rattle.std.specs.List.{AllByRecursion, slice_get}
-use Rattle.std.proofs.lemmas.List.Elements.{recursion_from_All, All-replicate}
 use Rattle.sour_syntax.specs.declared.literal.Literal.{Literal}
+use Rattle.sour_syntax.specs.declared.literal.Value.{Value}
 use Rattle.sour_syntax.specs.declared.program.Function.{Function}
 use Rattle.sour_syntax.specs.declared.program.Version.{Version}
-use Rattle.sour_syntax.specs.BodyView.{BodyView}
-use Rattle.sour_syntax.specs.Program.{ProgramView, HasMain}
-use Rattle.sour_syntax.specs.Scopes.{first_scope}
-use Rattle.sour_semantics.specs.State.{FrameCode, text, Ending, stuck, State}
-use Rattle.sour_semantics.specs.Step.{text_choice, step, version_of, version_of_code, body_of_version, body_of}
-use Rattle.sour_semantics.specs.Run.{empty_environment, first_frame, start, text_run}
-use Rattle.sour_semantics.specs.Validity.{IsValidLiteral, IsValidKept, IsValidFrame, IsSound, IsValid, IsValidEnding, scope_of}
+use Rattle.sour_syntax.specs.Program.{ProgramView, IsProgram, HasMain}
+use Rattle.sour_semantics.specs.State.{Heap, FrameCode, text, Ending, stuck, State}
+use Rattle.sour_semantics.specs.Step.{text_choice, step, version_of, version_of_code, body_of_version, entered_frame, output_limit}
+use Rattle.sour_semantics.specs.Run.{start_of, start, text_run}
+use Rattle.sour_semantics.specs.Validity.{IsValidFrame, IsValidHeap, IsValid, IsValidEnding}
+use Rattle.laws_validity.proofs.Values.{IsValueOf, IsLiteralOf}
+use Rattle.laws_validity.proofs.Frames.{IsValidFrame-entered}
 use Rattle.laws_validity.proofs.Steps.{IsValid-step}
 
--- no variable of a new row has a value
-scope_of-empty : (count : ℕ) → scope_of (empty_environment count) ≡ replicate count false
-scope_of-empty zero = refl
-scope_of-empty (suc count) = ap (λ rest. false ∷ rest) (scope_of-empty count)
+-- the start of a run of a version, with values for its parameters, is valid
+pub IsValid-start_of : (program : ProgramView) (code : FrameCode) (version : Version) (values : List Value) (heap : Heap)
+    (rest : List Literal) (output : List ℕ) → version_of_code program code ≡ Some version → length values ≡ version.body.parameters
+    → AllByRecursion (IsValueOf program heap) values → IsValidHeap program heap → AllByRecursion (IsLiteralOf program) rest
+    → length output ≤ output_limit → IsValid program (start_of program code values heap rest output)
+IsValid-start_of program code version values heap rest output runs same are valid literals room =
+    let Enters : Option Version → Type 0 =
+    λ found. IsValidFrame program (length heap) (entered_frame code (body_of_version found) values) in
+    let frame : Enters (version_of_code program code) =
+    subst Enters (sym runs) (IsValidFrame-entered program (length heap) code version values runs same are) in
+    record { frames = (frame, tt); heap = valid; input = literals; output = room; ending = (refl, tt) }
 
--- the first scope of a body without parameters
-first_scope-none : (body : BodyView) → body.parameters ≡ 0 → first_scope body ≡ replicate (length body.variables) false
-first_scope-none body none =
-    let all : length body.variables - body.parameters ≡ length body.variables = omega (arith, none) in
-    ap (λ (count : ℕ). replicate count true ++ replicate (length body.variables - body.parameters) false) none
-    ∙ ap (λ (count : ℕ). replicate count false) all
+-- the version that main has
+runs_main : (program : ProgramView) (main : HasMain program) → version_of_code program (text program.main 0) ≡ Some main.version
+runs_main program main =
+    ap (λ (found : Option Function). version_of found 0) main.found ∙ ap (λ (versions : List Version). slice_get versions 0) main.text
 
--- the frame of main is valid
-IsValidFrame-main : (program : ProgramView) → HasMain program → IsValidFrame program (first_frame program program.main)
-IsValidFrame-main program main =
-    let code : FrameCode = text program.main 0 in
-    let body : BodyView = body_of program code in
-    let runs : version_of_code program code ≡ Some main.version =
-    ap (λ (found : Option Function). version_of found 0) main.found ∙ ap (λ (versions : List Version). slice_get versions 0) main.text in
-    let none : body.parameters ≡ 0 = ap (λ (found : Option Version). (body_of_version found).parameters) runs ∙ main.parameters in
-    let count : ℕ = length body.variables in
-    record {
-      version = main.version;
-      runs = runs;
-      count = 0;
-      path = (refl, scope_of-empty count ∙ sym (first_scope-none body none));
-      values = recursion_from_All IsValidKept (replicate count None) (All-replicate IsValidKept count None tt);
-    }
-
--- the start of a run is valid
-pub IsValid-start : (program : ProgramView) (input : List Literal) → IsSound program → AllByRecursion IsValidLiteral input
+-- the start of a run of main is valid
+pub IsValid-start : (program : ProgramView) (input : List Literal) → IsProgram program → AllByRecursion (IsLiteralOf program) input
     → IsValid program (start program input)
-IsValid-start program input sound literals =
-    record { frames = (IsValidFrame-main program sound.main, tt); input = literals; output = omega arith; ending = (refl, tt) }
+IsValid-start program input is literals =
+    IsValid-start_of program (text program.main 0) is.main.version [] [] input [] (runs_main program is.main) (sym is.main.parameters) tt
+    (record { cells = omega arith; values = tt }) literals (omega arith)
 
 -- and so is every state behind a valid one
-IsValid-text_run : (program : ProgramView) (steps : ℕ) (s : State) → IsSound program → IsValid program s
+IsValid-text_run : (program : ProgramView) (steps : ℕ) (s : State) → IsProgram program → IsValid program s
     → IsValid program (text_run program steps s)
-IsValid-text_run program zero s sound valid = valid
-IsValid-text_run program (suc steps) s sound valid =
-    IsValid-text_run program steps (step program text_choice s) sound (IsValid-step program text_choice s sound valid)
+IsValid-text_run program zero s is valid = valid
+IsValid-text_run program (suc steps) s is valid =
+    IsValid-text_run program steps (step program text_choice s) is (IsValid-step program text_choice s is valid)
 
 -- a valid state isn't stuck
 not_stuck : (program : ProgramView) (s : State) → IsValid program s → s.ending ≡ Some stuck → ⊥
-not_stuck program s valid is =
-    let Ends : Option Ending → Type 0 = λ ending. IsValidEnding ending s.frames in
-    subst Ends is valid.ending
+not_stuck program s valid same =
+    let Ends : Option Ending → Type 0 = λ ending. IsValidEnding program (length s.heap) ending s.frames in
+    subst Ends same valid.ending
 
 -- a run never gets stuck
-pub never : (program : ProgramView) (input : List Literal) (steps : ℕ) → IsSound program → AllByRecursion IsValidLiteral input
+pub never : (program : ProgramView) (input : List Literal) (steps : ℕ) → IsProgram program → AllByRecursion (IsLiteralOf program) input
     → (text_run program steps (start program input)).ending ≡ Some stuck → ⊥
-never program input steps sound literals =
+never program input steps is literals =
     not_stuck program (text_run program steps (start program input))
-    (IsValid-text_run program steps (start program input) sound (IsValid-start program input sound literals))
+    (IsValid-text_run program steps (start program input) is (IsValid-start program input is literals))

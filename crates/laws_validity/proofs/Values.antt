@@ -1,11 +1,13 @@
--- The value of an expression is valid.
-use Rattle.std.proofs.Common.{◌≡◌, ℕ, zero, suc, [], ◌∷◌, Bool, true, false, cond, None, Some, Result, Ok, Err, refl}
-use Rattle.std.specs.Prelude.{ℤ, pos, ◌+ℤ◌, ◌-ℤ◌, ◌*ℤ◌, int_div}
+-- The value of an expression is a value of the run.
+use Rattle.std.proofs.Common.{◌≡◌, ◌≤◌, ◌^◌, ℕ, zero, suc, List, [], ◌∷◌, length, Bool, true, false, cond, Option, None, Some, Result, Ok, Err, refl, arith}
+use Rattle.std.specs.Prelude.{ℤ, pos, negsuc, ◌+ℤ◌, ◌-ℤ◌, ◌*ℤ◌, int_div, IfOk, IfSome}
 use Rattle.std.specs.List.{AllByRecursion, slice_get}
 use Rattle.std.specs.Ordering.{int_eq}
-use Rattle.sour_syntax.specs.declared.literal.Literal.TheVariants.{Number, Truth, Nil}
+use Rattle.std.proofs.lemmas.Bool.{lt-ltb}
+use Rattle.sour_syntax.specs.declared.literal.Literal.{Literal}
+use Rattle.sour_syntax.specs.declared.literal.Literal.TheVariants.{Number}
 use Rattle.sour_syntax.specs.declared.literal.Value.{Value}
-use Rattle.sour_syntax.specs.declared.literal.Value.TheVariants as value
+use Rattle.sour_syntax.specs.declared.literal.Value.TheVariants.{Plain, Array}
 use Rattle.sour_syntax.specs.declared.expression.Op.{Op}
 use Rattle.sour_syntax.specs.declared.expression.Op.TheVariants as op
 use Rattle.sour_syntax.specs.declared.expression.Simple.{Simple}
@@ -14,90 +16,173 @@ use Rattle.sour_syntax.specs.declared.expression.Expr.{Expr}
 use Rattle.sour_syntax.specs.declared.expression.Expr.TheVariants as expr
 use Rattle.sour_syntax.specs.declared.trap.Trap.{Trap}
 use Rattle.sour_syntax.specs.declared.trap.Trap.TheVariants.{Overflow, ZeroDivisor}
+use Rattle.sour_syntax.specs.Literals.{is_i64, IsLiteral, simple_literals, literals_of_expr, literals_of_each}
+use Rattle.sour_syntax.specs.Program.{ProgramView}
 use Rattle.sour_semantics.specs.State.{Environment, Heap}
-use Rattle.sour_semantics.specs.Evaluation.{is_i64, number, divided, on_numbers, on_truths, negated, applied, value_or_nil, operand, eval}
-use Rattle.sour_semantics.specs.Validity.{IsValidLiteral, IsValidValue, IsValidKept, simple_literals, literals_of_expr}
+use Rattle.sour_semantics.specs.Evaluation.{number_in, truth_in, cells_of, number, divided, on_numbers, on_truths, negated, applied, cell_at, within_bounds, cell, length_of, value_or_nil, operand, eval, in_front, eval_each}
+use Rattle.sour_semantics.specs.Step.{count_heap, cell_limit}
+use Rattle.sour_semantics.specs.Validity.{IsValue, IsKept, IsValidHeap}
+use Rattle.laws_validity.proofs.Lists.{AllByRecursion-parts, IfSome-slice_get}
 
--- a value is valid, or there is a trap
-abbrev pub IsValidResult : Result Value Trap → Type 0
-IsValidResult (Ok value) = IsValidValue value
-IsValidResult (Err trap) = Unit {0}
+-- a value of a run of this program over this heap
+abbrev pub IsValueOf : ProgramView → Heap → Value → Type 0
+IsValueOf program heap = IsValue (length program.functions) (length heap)
+
+-- what is kept for a variable in such a run
+abbrev pub IsKeptOf : ProgramView → Heap → Option Value → Type 0
+IsKeptOf program heap = IsKept (length program.functions) (length heap)
+
+-- a literal of this program
+abbrev pub IsLiteralOf : ProgramView → Literal → Type 0
+IsLiteralOf program = IsLiteral (length program.functions)
+
+-- a value stays one when there are more arrays
+pub IsValue-more : (functions few many : ℕ) → few ≤ many → (value : Value) → IsValue functions few value → IsValue functions many value
+IsValue-more functions few many less (Plain literal) is = is
+IsValue-more functions few many less (Array a) is = omega (arith, less, is)
+
+-- so does what is kept for a variable
+pub IsKept-more : (functions few many : ℕ) → few ≤ many → (kept : Option Value) → IsKept functions few kept → IsKept functions many kept
+IsKept-more functions few many less None is = tt
+IsKept-more functions few many less (Some value) is = IsValue-more functions few many less value is
 
 -- a number that passes the test lies in i64
-tested : (z : ℤ) (test : Bool) → is_i64 z ≡ test → IsValidResult (cond test (Ok (value.Plain (Number z))) (Err Overflow))
-tested z true is = is
-tested z false is = tt
+tested : (functions arrays : ℕ) (z : ℤ) (test : Bool) → is_i64 z ≡ test
+    → IfOk (cond test (Ok (Plain (Number z))) (Err Overflow)) (IsValue functions arrays)
+tested functions arrays z true is = is
+tested functions arrays z false is = tt
 
 -- a number is tested
-IsValidResult-number : (z : ℤ) → IsValidResult (number z)
-IsValidResult-number z = tested z (is_i64 z) refl
+IfOk-number : (functions arrays : ℕ) (z : ℤ) → IfOk (number z) (IsValue functions arrays)
+IfOk-number functions arrays z = tested functions arrays z (is_i64 z) refl
 
 -- a division whose divisor was tested
-by_divisor : (test : Bool) (z : ℤ) → IsValidResult (cond test (Err ZeroDivisor) (number z))
-by_divisor true z = tt
-by_divisor false z = IsValidResult-number z
+by_divisor : (functions arrays : ℕ) (test : Bool) (z : ℤ) → IfOk (cond test (Err ZeroDivisor) (number z)) (IsValue functions arrays)
+by_divisor functions arrays true z = tt
+by_divisor functions arrays false z = IfOk-number functions arrays z
 
--- so is what a division gives
-IsValidResult-divided : (b z : ℤ) → IsValidResult (divided b z)
-IsValidResult-divided b z = by_divisor (int_eq b (pos 0)) z
+-- what a division gives
+IfOk-divided : (functions arrays : ℕ) (b z : ℤ) → IfOk (divided b z) (IsValue functions arrays)
+IfOk-divided functions arrays b z = by_divisor functions arrays (int_eq b (pos 0)) z
 
 -- an operation on numbers
-IsValidResult-on_numbers : (f : ℤ → ℤ → Result Value Trap) (a b : Value)
-    → ((x y : ℤ) → IsValidResult (f x y)) → IsValidResult (on_numbers f a b)
-IsValidResult-on_numbers f (value.Plain (Number a)) (value.Plain (Number b)) fine = fine a b
-IsValidResult-on_numbers f (value.Plain (Number a)) (value.Plain (Truth b)) fine = tt
-IsValidResult-on_numbers f (value.Plain (Number a)) (value.Plain Nil) fine = tt
-IsValidResult-on_numbers f (value.Plain (Truth a)) (value.Plain b) fine = tt
-IsValidResult-on_numbers f (value.Plain Nil) (value.Plain b) fine = tt
+IfOk-on_numbers : (functions arrays : ℕ) (f : ℤ → ℤ → Result Value Trap) (a b : Option ℤ)
+    → ((x y : ℤ) → IfOk (f x y) (IsValue functions arrays)) → IfOk (on_numbers f a b) (IsValue functions arrays)
+IfOk-on_numbers functions arrays f None b fine = tt
+IfOk-on_numbers functions arrays f (Some a) None fine = tt
+IfOk-on_numbers functions arrays f (Some a) (Some b) fine = fine a b
 
 -- an operation on truth values
-IsValidResult-on_truths : (f : Bool → Bool → Bool) (a b : Value) → IsValidResult (on_truths f a b)
-IsValidResult-on_truths f (value.Plain (Truth a)) (value.Plain (Truth b)) = tt
-IsValidResult-on_truths f (value.Plain (Truth a)) (value.Plain (Number b)) = tt
-IsValidResult-on_truths f (value.Plain (Truth a)) (value.Plain Nil) = tt
-IsValidResult-on_truths f (value.Plain (Number a)) (value.Plain b) = tt
-IsValidResult-on_truths f (value.Plain Nil) (value.Plain b) = tt
+IfOk-on_truths : (functions arrays : ℕ) (f : Bool → Bool → Bool) (a b : Option Bool) → IfOk (on_truths f a b) (IsValue functions arrays)
+IfOk-on_truths functions arrays f None b = tt
+IfOk-on_truths functions arrays f (Some a) None = tt
+IfOk-on_truths functions arrays f (Some a) (Some b) = tt
 
 -- the other truth value
-IsValidResult-negated : (a : Value) → IsValidResult (negated a)
-IsValidResult-negated (value.Plain (Truth b)) = tt
-IsValidResult-negated (value.Plain (Number a)) = tt
-IsValidResult-negated (value.Plain Nil) = tt
+IfOk-negated : (functions arrays : ℕ) (a : Option Bool) → IfOk (negated a) (IsValue functions arrays)
+IfOk-negated functions arrays None = tt
+IfOk-negated functions arrays (Some b) = tt
 
 -- what an operator gives, whatever the two values
-IsValidResult-applied : (operator : Op) (a b : Value) → IsValidResult (applied operator a b)
-IsValidResult-applied op.Add a b = IsValidResult-on_numbers _ a b (λ x y. IsValidResult-number (x +ℤ y))
-IsValidResult-applied op.Sub a b = IsValidResult-on_numbers _ a b (λ x y. IsValidResult-number (x -ℤ y))
-IsValidResult-applied op.Mul a b = IsValidResult-on_numbers _ a b (λ x y. IsValidResult-number (x *ℤ y))
-IsValidResult-applied op.Div a b = IsValidResult-on_numbers _ a b (λ x y. IsValidResult-divided y (int_div x y))
-IsValidResult-applied op.Rem a b = IsValidResult-on_numbers _ a b (λ x y. IsValidResult-divided y (x -ℤ (y *ℤ int_div x y)))
-IsValidResult-applied op.Eq a b = tt
-IsValidResult-applied op.Ne a b = tt
-IsValidResult-applied op.Lt a b = IsValidResult-on_numbers _ a b (λ x y. tt)
-IsValidResult-applied op.Le a b = IsValidResult-on_numbers _ a b (λ x y. tt)
-IsValidResult-applied op.Gt a b = IsValidResult-on_numbers _ a b (λ x y. tt)
-IsValidResult-applied op.Ge a b = IsValidResult-on_numbers _ a b (λ x y. tt)
-IsValidResult-applied op.And a b = IsValidResult-on_truths _ a b
-IsValidResult-applied op.Or a b = IsValidResult-on_truths _ a b
+IfOk-applied : (functions arrays : ℕ) (operator : Op) (a b : Value) → IfOk (applied operator a b) (IsValue functions arrays)
+IfOk-applied functions arrays op.Add a b =
+    IfOk-on_numbers functions arrays _ (number_in a) (number_in b) (λ x y. IfOk-number functions arrays (x +ℤ y))
+IfOk-applied functions arrays op.Sub a b =
+    IfOk-on_numbers functions arrays _ (number_in a) (number_in b) (λ x y. IfOk-number functions arrays (x -ℤ y))
+IfOk-applied functions arrays op.Mul a b =
+    IfOk-on_numbers functions arrays _ (number_in a) (number_in b) (λ x y. IfOk-number functions arrays (x *ℤ y))
+IfOk-applied functions arrays op.Div a b =
+    IfOk-on_numbers functions arrays _ (number_in a) (number_in b) (λ x y. IfOk-divided functions arrays y (int_div x y))
+IfOk-applied functions arrays op.Rem a b =
+    IfOk-on_numbers functions arrays _ (number_in a) (number_in b) (λ x y. IfOk-divided functions arrays y (x -ℤ (y *ℤ int_div x y)))
+IfOk-applied functions arrays op.Eq a b = tt
+IfOk-applied functions arrays op.Ne a b = tt
+IfOk-applied functions arrays op.Lt a b = IfOk-on_numbers functions arrays _ (number_in a) (number_in b) (λ x y. tt)
+IfOk-applied functions arrays op.Le a b = IfOk-on_numbers functions arrays _ (number_in a) (number_in b) (λ x y. tt)
+IfOk-applied functions arrays op.Gt a b = IfOk-on_numbers functions arrays _ (number_in a) (number_in b) (λ x y. tt)
+IfOk-applied functions arrays op.Ge a b = IfOk-on_numbers functions arrays _ (number_in a) (number_in b) (λ x y. tt)
+IfOk-applied functions arrays op.And a b = IfOk-on_truths functions arrays _ (truth_in a) (truth_in b)
+IfOk-applied functions arrays op.Or a b = IfOk-on_truths functions arrays _ (truth_in a) (truth_in b)
+
+-- a cell at an index
+IfSome-cell_at : (P : Value → Type 0) (cells : List Value) (index : ℤ) → AllByRecursion P cells → IfSome (cell_at cells index) P
+IfSome-cell_at P cells (pos place) all = IfSome-slice_get P cells place all
+IfSome-cell_at P cells (negsuc n) all = tt
+
+-- a cell that must be there
+IfOk-within_bounds : (P : Value → Type 0) (found : Option Value) → IfSome found P → IfOk (within_bounds found) P
+IfOk-within_bounds P None is = tt
+IfOk-within_bounds P (Some value) is = is
+
+-- a cell of an array
+IfOk-cell : (P : Value → Type 0) (cells : Option (List Value)) (index : Option ℤ) → IfSome cells (AllByRecursion P)
+    → IfOk (cell cells index) P
+IfOk-cell P None index all = tt
+IfOk-cell P (Some cells) None all = tt
+IfOk-cell P (Some cells) (Some index) all = IfOk-within_bounds P (cell_at cells index) (IfSome-cell_at P cells index all)
+
+-- the cells of an array of the heap
+IfSome-cells_of : (P : List Value → Type 0) (heap : Heap) (value : Value) → AllByRecursion P heap → IfSome (cells_of heap value) P
+IfSome-cells_of P heap (Plain literal) all = tt
+IfSome-cells_of P heap (Array a) all = IfSome-slice_get P heap a.0 all
+
+-- no array has more cells than a bound on the cells of all
+few_each : (heap : Heap) (limit : ℕ) → count_heap heap ≤ limit → AllByRecursion (λ (cells : List Value). length cells ≤ limit) heap
+few_each [] limit within = tt
+few_each (cells ∷ heap) limit within = (omega (arith, within), few_each heap limit (omega (arith, within)))
+
+-- a length is a number of i64
+IfOk-length_of : (functions arrays : ℕ) (cells : Option (List Value)) → IfSome cells (λ cells. length cells ≤ cell_limit)
+    → IfOk (length_of cells) (IsValue functions arrays)
+IfOk-length_of functions arrays None few = tt
+IfOk-length_of functions arrays (Some cells) few = lt-ltb (length cells) (2 ^ 63) (omega (arith, few))
 
 -- what is kept for a variable
-IsValidValue-value_or_nil : (environment : Environment) (place : ℕ) → AllByRecursion IsValidKept environment
-    → IsValidValue (value_or_nil (slice_get environment place))
-IsValidValue-value_or_nil [] place all = tt
-IsValidValue-value_or_nil (None ∷ environment) zero all = tt
-IsValidValue-value_or_nil (Some kept ∷ environment) zero all = all.0
-IsValidValue-value_or_nil (kept ∷ environment) (suc place) all = IsValidValue-value_or_nil environment place all.1
+IsValue-value_or_nil : (functions arrays : ℕ) (environment : Environment) (place : ℕ)
+    → AllByRecursion (IsKept functions arrays) environment → IsValue functions arrays (value_or_nil (slice_get environment place))
+IsValue-value_or_nil functions arrays [] place all = tt
+IsValue-value_or_nil functions arrays (None ∷ environment) zero all = tt
+IsValue-value_or_nil functions arrays (Some kept ∷ environment) zero all = all.0
+IsValue-value_or_nil functions arrays (kept ∷ environment) (suc place) all =
+    IsValue-value_or_nil functions arrays environment place all.1
 
 -- the value of an operand
-IsValidValue-operand : (environment : Environment) (a : Simple) → AllByRecursion IsValidKept environment
-    → AllByRecursion IsValidLiteral (simple_literals a) → IsValidValue (operand environment a)
-IsValidValue-operand environment (Lit literal) all literals = literals.0
-IsValidValue-operand environment (Var x) all literals = IsValidValue-value_or_nil environment x.0 all
+IsValue-operand : (functions arrays : ℕ) (environment : Environment) (a : Simple)
+    → AllByRecursion (IsKept functions arrays) environment → AllByRecursion (IsLiteral functions) (simple_literals a)
+    → IsValue functions arrays (operand environment a)
+IsValue-operand functions arrays environment (Lit literal) all literals = literals.0
+IsValue-operand functions arrays environment (Var x) all literals = IsValue-value_or_nil functions arrays environment x.0 all
 
--- the value of an expression whose literals are valid
-pub IsValidResult-eval : (environment : Environment) (heap : Heap) (e : Expr) → AllByRecursion IsValidKept environment
-    → AllByRecursion IsValidLiteral (literals_of_expr e) → IsValidResult (eval environment heap e)
-IsValidResult-eval environment heap (expr.Plain a) all literals = IsValidValue-operand environment a all literals
-IsValidResult-eval environment heap (expr.Not a) all literals = IsValidResult-negated (operand environment a)
-IsValidResult-eval environment heap (expr.Binary operator a b) all literals =
-    IsValidResult-applied operator (operand environment a) (operand environment b)
+-- the value of an expression
+pub IfOk-eval : (program : ProgramView) (environment : Environment) (heap : Heap) (e : Expr) → IsValidHeap program heap
+    → AllByRecursion (IsKeptOf program heap) environment → AllByRecursion (IsLiteralOf program) (literals_of_expr e)
+    → IfOk (eval environment heap e) (IsValueOf program heap)
+IfOk-eval program environment heap (expr.Plain a) valid all literals =
+    IsValue-operand (length program.functions) (length heap) environment a all literals
+IfOk-eval program environment heap (expr.Cell x index) valid all literals =
+    IfOk-cell (IsValueOf program heap) (cells_of heap (operand environment (Var x))) (number_in (operand environment index))
+    (IfSome-cells_of (AllByRecursion (IsValueOf program heap)) heap (operand environment (Var x)) valid.values)
+IfOk-eval program environment heap (expr.Length a) valid all literals =
+    IfOk-length_of (length program.functions) (length heap) (cells_of heap (operand environment a))
+    (IfSome-cells_of (λ cells. length cells ≤ cell_limit) heap (operand environment a) (few_each heap cell_limit valid.cells))
+IfOk-eval program environment heap (expr.Not a) valid all literals =
+    IfOk-negated (length program.functions) (length heap) (truth_in (operand environment a))
+IfOk-eval program environment heap (expr.Binary operator a b) valid all literals =
+    IfOk-applied (length program.functions) (length heap) operator (operand environment a) (operand environment b)
+
+-- a value in front of others
+IfOk-in_front : (P : Value → Type 0) (first : Result Value Trap) (others : Result (List Value) Trap) → IfOk first P
+    → IfOk others (AllByRecursion P) → IfOk (in_front first others) (AllByRecursion P)
+IfOk-in_front P (Err trap) others is are = tt
+IfOk-in_front P (Ok value) (Err trap) is are = tt
+IfOk-in_front P (Ok value) (Ok values) is are = (is, are)
+
+-- the values of some expressions
+pub IfOk-eval_each : (program : ProgramView) (environment : Environment) (heap : Heap) (es : List Expr) → IsValidHeap program heap
+    → AllByRecursion (IsKeptOf program heap) environment → AllByRecursion (IsLiteralOf program) (literals_of_each es)
+    → IfOk (eval_each environment heap es) (AllByRecursion (IsValueOf program heap))
+IfOk-eval_each program environment heap [] valid all literals = tt
+IfOk-eval_each program environment heap (e ∷ es) valid all literals =
+    let parts = AllByRecursion-parts (IsLiteralOf program) (literals_of_expr e) (literals_of_each es) literals in
+    IfOk-in_front (IsValueOf program heap) (eval environment heap e) (eval_each environment heap es)
+    (IfOk-eval program environment heap e valid all parts.0) (IfOk-eval_each program environment heap es valid all parts.1)

@@ -2,7 +2,12 @@
 //! by the definitions of `sour_semantics` alone.
 #![tactic(auto)]
 
-ghost use Rattle.laws_validity.specs.Laws.{StartsValid, StaysValid, NeverGetsStuck};
+ghost use Rattle.laws_validity.specs.Laws.{CallStartsValid, StartsValid, StaysValid, NeverGetsStuck};
+
+/// A run of any version, with values for its parameters, starts in a valid state.
+pub fn call_start()
+    ensures { CallStartsValid }
+{}
 
 /// A run of a checked program starts in a valid state.
 pub fn start()

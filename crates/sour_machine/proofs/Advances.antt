@@ -1,224 +1,206 @@
--- What the loop over the lines of main keeps, and what its answers say.
-use Rattle.std.proofs.Common.{◌≡◌, ◌≢◌, ℕ, suc, ◌+◌, ◌<◌, List, [], Bool, true, false, Some, IsSome, ◌⊎◌, Result, Ok, Err, get_or, length, drop, Contains, None, ◌-◌, ◌≤◌, ◌++◌, replicate, refl, sym, ap, ◌∙◌, subst, inl, inr, arith}
+-- What the loop over the lines of a body keeps, and what its answers say.
+use Rattle.std.proofs.Common.{◌≡◌, ◌≢◌, ℕ, zero, suc, ◌+◌, ◌<◌, ◌≤◌, List, [], ◌∷◌, Bool, true, false, None, Some, get_or, length, drop, map, reverse, Contains, refl, sym, ap, ◌∙◌, subst, inr, arith}
+use Rattle.std.specs.Prelude.{MatchBool}
 use Rattle.std.specs.List.{AllByRecursion, slice_get}
 use Rattle.std.proofs.lemmas.Option.{slice_get-get_or}
-use Rattle.std.proofs.lemmas.List.{length-replicate}
-use Rattle.std.specs.Result.{OnOk, OnErr, is_err}
 use Rattle.sour_syntax.specs.declared.instruction.Instr.{Instr}
-use Rattle.sour_syntax.specs.declared.instruction.Instr.TheVariants.{Var, Drop, Assign, Print, Read, Branch, Goto, Return, Stop}
+use Rattle.sour_syntax.specs.declared.instruction.Instr.TheVariants.{Var, Drop, Assign, ArrayLength, ArrayList, Store, Print, Read, Branch, Goto, Call, Return, Stop}
 use Rattle.sour_syntax.specs.declared.instruction.Line.{Line}
 use Rattle.sour_syntax.specs.declared.jump.Jump.{Jump}
 use Rattle.sour_syntax.specs.declared.literal.Literal.{Literal}
+use Rattle.sour_syntax.specs.declared.program.Version.{Version}
 use Rattle.sour_syntax.specs.BodyView.{BodyView}
 use Rattle.sour_syntax.specs.Jumps.{GoesTo, GoTo}
-use Rattle.sour_syntax.specs.Labels.{LabelsDiffer}
-use Rattle.sour_syntax.specs.Scopes.{mentioned, IsLineAt, HasScopes, MentionsItsVariables}
+use Rattle.sour_syntax.specs.Labels.{LabelsDiffer, from_label, label_at}
+use Rattle.sour_syntax.specs.Scopes.{mentioned, followers, IsLineAt, HasScopes, MentionsItsVariables}
+use Rattle.sour_syntax.specs.Spread.{following}
 use Rattle.sour_syntax.specs.Terminator.{EndsInTerminator}
 use Rattle.sour_syntax.specs.Program.{ProgramView}
-use Rattle.sour_semantics.specs.State.{Environment, Frame, State}
-use Rattle.sour_semantics.specs.Step.{text_choice, act, step}
-use Rattle.sour_semantics.specs.Run.{first_frame, start, TakesTurn, IsAtBudget, empty_environment}
+use Rattle.sour_semantics.specs.State.{Environment, Frame, State, text}
+use Rattle.sour_semantics.specs.Step.{text_choice, body_of_version, version_of_code, body_of, act, step}
+use Rattle.sour_semantics.specs.Run.{start, TakesTurn}
 use Rattle.sour_semantics.specs.Validity.{scope_of}
 use Rattle.sour_semantics.proofs.Places.{step-at_place}
-use Rattle.sour_syntax.proofs.LabelPlaces.{from_label-first_label-drop, drop-slice_get, lt-EndsInTerminator, EndsInTerminator-next}
-use Rattle.sour_semantics.proofs.Runs.{text_run-suc}
+use Rattle.sour_syntax.proofs.LabelPlaces.{from_label-first_label-drop, drop-slice_get, lt-EndsInTerminator}
+use Rattle.sour_syntax.proofs.Following.{following_within}
+use Rattle.sour_machine.specs.declared.frame.Waiting.{Waiting}
 use Rattle.sour_machine.specs.declared.moment.Moment.{Moment}
 use Rattle.sour_machine.specs.declared.report.End.{End}
 use Rattle.sour_machine.specs.declared.report.End.TheVariants.{Returned, Stopped, Trapped, Cut, Memory}
-use Rattle.sour_machine.specs.declared.run.Advance.{Advance}
-use Rattle.sour_machine.specs.declared.run.Advance.TheVariants as answer
 use Rattle.sour_machine.specs.End.{ending_of, is_memory}
-use Rattle.sour_machine.specs.Instruction.{IsReady, ActsAs, next_places, GoesFurther, ComesTo, AlwaysTakesTurn, NeverTakesTurn}
-use Rattle.sour_machine.specs.Moment.{main_body, main_lines, main_label, main_frame, state_at, run_at, StandsAtLine, Stands}
-use Rattle.sour_machine.proofs.Scopes.{All-at, scope_of-empty}
-use Rattle.sour_machine.proofs.Jumps.{GoesTo-at, Contains-followers, EndsInTerminator-next_places, Contains-one}
-use Rattle.sour_machine.proofs.Instructions.{turns_branch}
+use Rattle.sour_machine.specs.Frame.{code_of, frame_lines, frame_at, waiting_at, StandsAtLine, StandsWaiting}
+use Rattle.sour_machine.specs.Instruction.{IsReady, ActsAs, IsCrossing, GoesFurther, ComesTo, StaysInFrame, AlwaysTakesTurn, NeverTakesTurn, StandsCrossing}
+use Rattle.sour_machine.specs.Moment.{state_at, run_at, Stands}
+use Rattle.sour_machine.specs.Run.{GoesOn, IsAtTurns, TakesMemory, StandsWanting}
+use Rattle.sour_machine.proofs.Scopes.{All-at}
+use Rattle.sour_machine.proofs.FrameLaws.{frame_lines-are}
+use Rattle.sour_machine.proofs.Jumps.{GoesTo-at, Contains-followers, All-Contains, Contains-one}
+use Rattle.sour_machine.proofs.Instructions.{turns_branch, turns_crossing}
 use Rattle.sour_machine.proofs.Measure.{before, before-turn, before-line}
-use Rattle.sour_machine.specs.Run.{RunView, GoesOn, Tells, IsAtRest, IsPrint, StandsAtPrint}
+use Rattle.sour_machine.proofs.RunLaws.{entered-none, GoesOn-one, GoesOn-on}
 
--- clauses on a result, by the test of its variant
-pub OnOk-at : {X E : Type 0} {P : Type 0} (outcome : Result X E) → is_err outcome ≡ false → OnOk outcome P → P
-OnOk-at (Ok value) ok holds = holds
-OnOk-at (Err why) ok holds = cc
-
-pub OnErr-at : {X E : Type 0} {P : Type 0} (outcome : Result X E) → is_err outcome ≡ true → OnErr outcome P → P
-OnErr-at (Ok value) err holds = cc
-OnErr-at (Err why) err holds = holds
-
-pub Memory-is_memory : (end : End) → is_memory end ≡ true → end ≡ Memory
-Memory-is_memory (Returned value) is = cc
-Memory-is_memory Stopped is = cc
-Memory-is_memory (Trapped trap) is = cc
-Memory-is_memory Cut is = cc
-Memory-is_memory Memory is = refl
-
--- the line at the place of a moment at which a run of the program goes on, and where it goes by name
-pub record IsAt (program : ProgramView) (moment : Moment) (line : Line) (jump : Jump) : Type 0 where
+-- the line at the place of a moment at which a run goes on in its top frame
+pub record IsAt (program : ProgramView) (moment : Moment) (line : Line) : Type 0 where
   pub going : moment.end ≡ Cut
-  pub differ : LabelsDiffer (main_lines program)
-  pub within : moment.place < length (main_lines program)
-  pub found : slice_get (main_lines program) moment.place ≡ Some line
-  pub goes : GoesTo (main_lines program) line.instr jump
+  pub differ : LabelsDiffer (frame_lines program moment.frame)
+  pub ends : EndsInTerminator (frame_lines program moment.frame)
+  pub within : moment.frame.place < length (frame_lines program moment.frame)
+  pub found : slice_get (frame_lines program moment.frame) moment.frame.place ≡ Some line
 
--- the line and the jump that the loop reads
-pub IsAt-lines : (program : ProgramView) (moment : Moment) (body : BodyView) (lines : List Line) (jumps : List Jump) (default : Line) (other : Jump) → body ≡ main_body program → lines ≡ body.lines
-    → LabelsDiffer lines → EndsInTerminator lines → GoTo body.lines body.lines jumps → moment.end ≡ Cut → StandsAtLine program moment.place moment.env
-    → IsAt program moment (get_or lines moment.place default) (get_or jumps moment.place other)
-IsAt-lines program moment body lines jumps default other body_is lines_are differ terminated go going stands =
+-- the body that the top frame runs
+pub body_of-runs : (program : ProgramView) (moment : Moment) (version : Version) (body : BodyView) → version_of_code program (code_of moment.frame.code) ≡ Some version → version.body ≡ body
+    → body_of program (code_of moment.frame.code) ≡ body
+body_of-runs program moment version body runs is = ap body_of_version runs ∙ is
+
+-- the line that the loop reads
+pub IsAt-lines : (program : ProgramView) (moment : Moment) (body : BodyView) (lines : List Line) (default : Line) → body_of program (code_of moment.frame.code) ≡ body → lines ≡ body.lines
+    → LabelsDiffer lines → EndsInTerminator lines → moment.end ≡ Cut → StandsAtLine program moment.frame None → IsAt program moment (get_or lines moment.frame.place default)
+IsAt-lines program moment body lines default body_is lines_are differ terminated going stands =
+    let all = frame_lines program moment.frame in
+    let place = moment.frame.place in
     let Differ : List Line → Type 0 = LabelsDiffer in
     let Ends : List Line → Type 0 = EndsInTerminator in
-    let Go : BodyView → Type 0 = λ body. GoTo body.lines body.lines jumps in
-    let same : lines ≡ main_lines program = lines_are ∙ ap (λ (b : BodyView). b.lines) body_is in
-    let within : moment.place < length (main_lines program) = lt-EndsInTerminator (main_lines program) moment.place (stands.line (subst Ends same terminated)) in
-    let found : slice_get (main_lines program) moment.place ≡ Some (get_or lines moment.place default) =
-    slice_get-get_or (main_lines program) moment.place default within ∙ ap (λ it. Some (get_or it moment.place default)) (sym same) in
+    let same : lines ≡ all = lines_are ∙ ap (λ (b : BodyView). b.lines) (sym body_is) in
+    let own : all ≡ stands.version.body.lines = frame_lines-are program moment.frame stands.version stands.runs in
+    let inside : place < length stands.version.body.lines = lt-EndsInTerminator stands.version.body.lines place (stands.line (subst Ends (same ∙ own) terminated)) in
+    let counts : length all ≡ length stands.version.body.lines = ap length own in
+    let within : place < length all = omega (arith, inside, counts) in
+    let found : slice_get all place ≡ Some (get_or lines place default) =
+    slice_get-get_or all place default within ∙ ap (λ it. Some (get_or it place default)) (sym same) in
     record {
       going = going;
       differ = subst Differ same differ;
+      ends = subst Ends same terminated;
       within = within;
       found = found;
-      goes = GoesTo-at (main_lines program) (main_lines program) jumps moment.place (get_or lines moment.place default) other (subst Go body_is go) found;
+    }
+
+-- and where it goes by name
+pub GoesTo-jumps : (program : ProgramView) (moment : Moment) (line : Line) (body : BodyView) (jumps : List Jump) (other : Jump) → IsAt program moment line → body_of program (code_of moment.frame.code) ≡ body
+    → GoTo body.lines body.lines jumps → GoesTo (frame_lines program moment.frame) line.instr (get_or jumps moment.frame.place other)
+GoesTo-jumps program moment line body jumps other at body_is go =
+    let Go : BodyView → Type 0 = λ body. GoTo body.lines body.lines jumps in
+    GoesTo-at (frame_lines program moment.frame) (frame_lines program moment.frame) jumps moment.frame.place line other (subst Go (sym body_is) go) at.found
+
+-- the line and the jump that the loop reads
+pub record Reads (program : ProgramView) (moment : Moment) (body : BodyView) (line : Line) (jump : Jump) : Type 0 where
+  pub at : IsAt program moment line
+  pub runs : body_of program (code_of moment.frame.code) ≡ body
+  pub goes : GoesTo (frame_lines program moment.frame) line.instr jump
+
+pub Reads-lines : (program : ProgramView) (start moment : Moment) (body : BodyView) (lines : List Line) (jumps : List Jump) (default : Line) (other : Jump) → moment.frame.code ≡ start.frame.code
+    → ((version : Version) × (version_of_code program (code_of start.frame.code) ≡ Some version) × (version.body ≡ body)) → lines ≡ body.lines → LabelsDiffer lines → EndsInTerminator lines
+    → GoTo body.lines body.lines jumps → moment.end ≡ Cut → StandsAtLine program moment.frame None → Reads program moment body (get_or lines moment.frame.place default) (get_or jumps moment.frame.place other)
+Reads-lines program start moment body lines jumps default other code (version, runs, is) lines_are differ terminated go going stands =
+    let body_is : body_of program (code_of moment.frame.code) ≡ body = ap (λ code. body_of program (code_of code)) code ∙ body_of-runs program start version body runs is in
+    let at = IsAt-lines program moment body lines default body_is lines_are differ terminated going stands in
+    record {
+      at = at;
+      runs = body_is;
+      goes = GoesTo-jumps program moment (get_or lines moment.frame.place default) body jumps other at body_is go;
     }
 
 -- the line stands at its label
-IsLineAt-place : (program : ProgramView) (moment : Moment) (line : Line) (jump : Jump) → IsAt program moment line jump
-    → IsLineAt (main_body program) (main_label program moment.place) line (drop (moment.place + 1) (main_lines program))
-IsLineAt-place program moment line jump at = record {
-  stands = from_label-first_label-drop (main_lines program) moment.place at.differ at.within ∙ drop-slice_get (main_lines program) moment.place line at.found;
-}
+pub from_label-place : (program : ProgramView) (moment : Moment) (line : Line) → IsAt program moment line
+    → from_label (label_at (frame_lines program moment.frame) moment.frame.place) (frame_lines program moment.frame) ≡ line ∷ drop (moment.frame.place + 1) (frame_lines program moment.frame)
+from_label-place program moment line at =
+    from_label-first_label-drop (frame_lines program moment.frame) moment.frame.place at.differ at.within ∙ drop-slice_get (frame_lines program moment.frame) moment.frame.place line at.found
+
+pub IsLineAt-version : (program : ProgramView) (moment : Moment) (line : Line) (version : Version) → version_of_code program (code_of moment.frame.code) ≡ Some version → IsAt program moment line
+    → IsLineAt version.body (label_at version.body.lines moment.frame.place) line (drop (moment.frame.place + 1) version.body.lines)
+IsLineAt-version program moment line version runs at =
+    let Stands : List Line → Type 0 = λ lines. from_label (label_at lines moment.frame.place) lines ≡ line ∷ drop (moment.frame.place + 1) lines in
+    record { stands = subst Stands (frame_lines-are program moment.frame version runs) (from_label-place program moment line at) }
 
 -- each variable that the line needs has a value
-pub IsReady-line : (program : ProgramView) (moment : Moment) (line : Line) (jump : Jump) → IsAt program moment line jump → HasScopes (main_body program) → MentionsItsVariables (main_body program)
-    → StandsAtLine program moment.place moment.env → IsReady line.instr moment.env
-IsReady-line program moment line jump at scopes mentions stands =
-    let body = main_body program in
-    let Mentions : ℕ → Type 0 = λ count. AllByRecursion (λ x. x.0 < count) (mentioned line.instr) in
-    let Line_mentions : Line → Type 0 = λ line. AllByRecursion (λ x. x.0 < length body.variables) (mentioned line.instr) in
+pub IsReady-line : (program : ProgramView) (moment : Moment) (line : Line) (body : BodyView) → IsAt program moment line → body_of program (code_of moment.frame.code) ≡ body
+    → HasScopes body → MentionsItsVariables body → StandsAtLine program moment.frame None → IsReady line.instr moment.frame.env
+IsReady-line program moment line body at body_is scopes mentions stands =
+    let own = stands.version.body in
+    let place = moment.frame.place in
+    let same : body ≡ own = sym body_is ∙ ap body_of_version stands.runs in
+    let Scopes : BodyView → Type 0 = HasScopes in
+    let Mentions : BodyView → Type 0 = MentionsItsVariables in
+    let Found : List Line → Type 0 = λ lines. slice_get lines place ≡ Some line in
+    let Each : ℕ → Type 0 = λ count. AllByRecursion (λ x. x.0 < count) (mentioned line.instr) in
+    let Line_mentions : Line → Type 0 = λ line. AllByRecursion (λ x. x.0 < length own.variables) (mentioned line.instr) in
+    let has : HasScopes own = subst Scopes same scopes in
+    let all : MentionsItsVariables own = subst Mentions same mentions in
     record {
-      needs = (scopes.fine stands.count (main_label program moment.place) (scope_of moment.env) line (drop (moment.place + 1) body.lines) stands.path (IsLineAt-place program moment line jump at)).needs;
-      mentions = subst Mentions (sym stands.row) (All-at Line_mentions body.lines moment.place line at.found mentions);
+      needs = (has.fine stands.count (label_at own.lines place) (scope_of moment.frame.env) line (drop (place + 1) own.lines) stands.path (IsLineAt-version program moment line stands.version stands.runs at)).needs;
+      mentions = subst Each (sym stands.row) (All-at Line_mentions own.lines place line (subst Found (frame_lines-are program moment.frame stands.version stands.runs) at.found) all);
     }
 
--- a run stands at the first line of main where none of its variables has a value
-pub StandsAtLine-start : (program : ProgramView) (body : BodyView) (environment : Environment) → body ≡ main_body program → body.parameters ≡ 0
-    → environment ≡ empty_environment (length body.variables) → StandsAtLine program 0 environment
-StandsAtLine-start program body environment is none empty =
-    let count : ℕ = length (main_body program).variables in
-    let parameters : (main_body program).parameters ≡ 0 = ap (λ (b : BodyView). b.parameters) (sym is) ∙ none in
-    let begun : environment ≡ empty_environment count = empty ∙ ap (λ (b : BodyView). empty_environment (length b.variables)) is in
-    let all : count - 0 ≡ count = omega arith in
-    record {
-      line = λ terminated. terminated;
-      count = 0;
-      path = (
-        refl,
-        ap scope_of begun ∙ scope_of-empty count ∙ ap (λ left. replicate left false) (sym all)
-            ∙ ap (λ n. replicate n true ++ replicate (count - n) false) (sym parameters),
-      );
-      row = ap length begun ∙ length-replicate count None;
-    }
-
-step-state_at : (program : ProgramView) (input : List Literal) (moment : Moment) (line : Line) (jump : Jump) → IsAt program moment line jump
-    → step program text_choice (state_at program input moment) ≡ act program text_choice (main_frame program moment.place moment.env) line.instr (main_label program (moment.place + 1)) (state_at program input moment)
-step-state_at program input moment line jump at =
-    step-at_place program text_choice (state_at program input moment) (main_frame program moment.place moment.env) [] moment.place line (ap ending_of at.going) refl refl at.differ at.within at.found
+pub step-state_at : (program : ProgramView) (input : List Literal) (moment : Moment) (line : Line) → IsAt program moment line
+    → step program text_choice (state_at program input moment) ≡ act program text_choice (frame_at program moment.frame None) line.instr (label_at (frame_lines program moment.frame) (moment.frame.place + 1)) (state_at program input moment)
+step-state_at program input moment line at =
+    step-at_place program text_choice (state_at program input moment) (frame_at program moment.frame None) (reverse (map (waiting_at program) moment.below)) moment.frame.place line
+    (ap ending_of at.going) refl refl at.differ at.within at.found
 
 -- one instruction more
-pub GoesOn-act : (program : ProgramView) (input : List Literal) (old mid new : Moment) (line : Line) (jump : Jump) → IsAt program mid line jump → ActsAs program input line.instr mid new
+pub GoesOn-act : (program : ProgramView) (input : List Literal) (old mid new : Moment) (line : Line) → IsAt program mid line → ActsAs program input line.instr mid new → StaysInFrame mid new
     → GoesOn (run_at program input true old) (run_at program input true mid) → GoesOn (run_at program input true old) (run_at program input true new)
-GoesOn-act program input old mid new line jump at acts on = record {
-  program = refl;
-  input = refl;
-  steps = suc on.steps;
-  reached = text_run-suc program on.steps (state_at program input old)
-      ∙ ap (step program text_choice) on.reached
-      ∙ step-state_at program input mid line jump at
-      ∙ sym acts;
-  entered = λ was. refl;
-  before_main = λ outside. cc;
-}
+GoesOn-act program input old mid new line at acts stays on =
+    let none = entered-none program input mid new (omega (arith, ap length stays.below)) in
+    GoesOn-on program input old mid new on (GoesOn-one program input mid new (step-state_at program input mid line at ∙ sym acts) (omega (arith, none, stays.calls)))
 
--- want of memory leaves the state as it was
-pub GoesOn-wanting : (program : ProgramView) (input : List Literal) (old mid new : Moment) → mid.end ≡ Cut → new ≡ mid
-    → GoesOn (run_at program input true old) (run_at program input true mid) → GoesOn (run_at program input true old) (run_at program input true (record new { end = Memory }))
-GoesOn-wanting program input old mid new going same on = record {
-  program = refl;
-  input = refl;
-  steps = on.steps;
-  reached = on.reached
-      ∙ ap (λ end. state_at program input (record mid { end = end })) going
-      ∙ ap (λ moment. state_at program input (record moment { end = Memory })) (sym same);
-  entered = λ was. refl;
-  before_main = λ outside. cc;
-}
-
--- and the run at the `print` that wanted it
-pub StandsAtPrint-wanting : (program : ProgramView) (input : List Literal) (mid new : Moment) (line : Line) (jump : Jump) → IsAt program mid line jump → IsPrint line.instr → new ≡ mid
-    → StandsAtPrint (run_at program input true (record new { end = Memory }))
-StandsAtPrint-wanting program input mid new line jump at prints same =
-    let At : Moment → Type 0 = λ moment. StandsAtPrint (run_at program input true (record moment { end = Memory })) in
+-- the run at the line that wanted memory
+pub StandsWanting-line : (program : ProgramView) (input : List Literal) (mid new : Moment) (line : Line) → IsAt program mid line → TakesMemory line.instr → new ≡ mid
+    → StandsWanting (run_at program input true new)
+StandsWanting-line program input mid new line at takes same =
+    let At : Moment → Type 0 = λ moment. StandsWanting (run_at program input true moment) in
     subst At (sym same) (record {
-      frame = main_frame program mid.place mid.env;
-      others = [];
+      frame = frame_at program mid.frame None;
+      others = reverse (map (waiting_at program) mid.below);
       line = line;
-      behind = drop (mid.place + 1) (main_lines program);
+      behind = drop (mid.frame.place + 1) (frame_lines program mid.frame);
       top = refl;
-      stands = (IsLineAt-place program mid line jump at).stands;
-      prints = prints;
+      stands = from_label-place program mid line at;
+      takes = takes;
     })
 
--- entering main is no step
-pub GoesOn-entering : (program : ProgramView) (input : List Literal) (entered : Bool) (old new : Moment)
-    → GoesOn (run_at program input true old) (run_at program input true new) → GoesOn (run_at program input entered old) (run_at program input true new)
-GoesOn-entering program input entered old new on = record {
-  program = refl;
-  input = refl;
-  steps = on.steps;
-  reached = on.reached;
-  entered = λ was. refl;
-  before_main = λ outside. cc;
-}
-
 -- at an instruction that takes a turn the next step takes one
-TakesTurn-always : (program : ProgramView) (input : List Literal) (moment : Moment) (line : Line) (jump : Jump) → IsAt program moment line jump → AlwaysTakesTurn line.instr
+TakesTurn-always : (program : ProgramView) (input : List Literal) (moment : Moment) (line : Line) → IsAt program moment line → AlwaysTakesTurn line.instr
     → TakesTurn program (state_at program input moment)
-TakesTurn-always program input moment line jump at always =
+TakesTurn-always program input moment line at always =
     let more : (step program text_choice (state_at program input moment)).turns ≡ moment.turns + 1 =
-    ap (λ (s : State). s.turns) (step-state_at program input moment line jump at)
-    ∙ always program text_choice (main_frame program moment.place moment.env) (main_label program (moment.place + 1)) (state_at program input moment) in
+    ap (λ (s : State). s.turns) (step-state_at program input moment line at)
+    ∙ always program text_choice (frame_at program moment.frame None) (label_at (frame_lines program moment.frame) (moment.frame.place + 1)) (state_at program input moment) in
     omega (arith, more)
 
 -- a run that would take a turn beyond its budget
-pub Tells-more : (program : ProgramView) (input : List Literal) (moment : Moment) (budget : ℕ) (line : Line) (jump : Jump) → IsAt program moment line jump → AlwaysTakesTurn line.instr
-    → moment.turns ≡ budget → Tells answer.MoreTurns budget (run_at program input true moment)
-Tells-more program input moment budget line jump at always used =
-    let going = ap ending_of at.going in (
-      record {
-        entered = refl;
-        has_memory = ap is_memory at.going;
-        rests = inr (going, used, TakesTurn-always program input moment line jump at always);
-      },
-      going,
-    )
+pub IsAtTurns-more : (program : ProgramView) (input : List Literal) (moment : Moment) (budget : ℕ) (line : Line) → IsAt program moment line → AlwaysTakesTurn line.instr
+    → moment.turns ≡ budget → IsAtTurns budget (run_at program input true moment)
+IsAtTurns-more program input moment budget line at always used = record {
+  entered = refl;
+  has_memory = ap is_memory at.going;
+  rests = inr (ap ending_of at.going, used, TakesTurn-always program input moment line at always);
+}
 
 -- the turns that an instruction takes
-pub turns-always : (program : ProgramView) (input : List Literal) (old new : Moment) (line : Line) (jump : Jump) → IsAt program old line jump → ActsAs program input line.instr old new → AlwaysTakesTurn line.instr
+pub turns-always : (program : ProgramView) (input : List Literal) (old new : Moment) (instr : Instr) → ActsAs program input instr old new → AlwaysTakesTurn instr
     → new.turns ≡ old.turns + 1
-turns-always program input old new line jump at acts always =
+turns-always program input old new instr acts always =
     ap (λ (s : State). s.turns) acts
-    ∙ always program text_choice (main_frame program old.place old.env) (main_label program (old.place + 1)) (state_at program input old)
+    ∙ always program text_choice (frame_at program old.frame None) (label_at (frame_lines program old.frame) (old.frame.place + 1)) (state_at program input old)
 
-pub turns-never : (program : ProgramView) (input : List Literal) (old new : Moment) (line : Line) (jump : Jump) → IsAt program old line jump → ActsAs program input line.instr old new → NeverTakesTurn line.instr
+pub turns-never : (program : ProgramView) (input : List Literal) (old new : Moment) (instr : Instr) → ActsAs program input instr old new → NeverTakesTurn instr
     → new.turns ≡ old.turns
-turns-never program input old new line jump at acts never =
+turns-never program input old new instr acts never =
     ap (λ (s : State). s.turns) acts
-    ∙ never program text_choice (main_frame program old.place old.env) (main_label program (old.place + 1)) (state_at program input old)
+    ∙ never program text_choice (frame_at program old.frame None) (label_at (frame_lines program old.frame) (old.frame.place + 1)) (state_at program input old)
+
+-- none takes turns back
+pub turns-grow : (program : ProgramView) (input : List Literal) (old new : Moment) (instr : Instr) → ActsAs program input instr old new → (test : Bool) → MatchBool test (AlwaysTakesTurn instr) (NeverTakesTurn instr)
+    → old.turns ≤ new.turns
+turns-grow program input old new instr acts true always = omega (arith, turns-always program input old new instr acts always)
+turns-grow program input old new instr acts false never = omega (arith, turns-never program input old new instr acts never)
 
 any_program : ProgramView
 any_program = record { functions = []; main = record { 0 = 0 } }
 
 any_frame : Frame
-any_frame = first_frame any_program (record { 0 = 0 })
+any_frame = record { code = text (record { 0 = 0 }) 0; label = []; environment = []; waits = None }
 
 -- no instruction always takes a turn and never takes one
 one_of : (instr : Instr) → AlwaysTakesTurn instr → NeverTakesTurn instr → ⊥
@@ -228,71 +210,89 @@ one_of instr always never =
     let none : (act any_program text_choice any_frame instr [] s).turns ≡ s.turns = never any_program text_choice any_frame [] s in
     omega (arith, one, none)
 
+-- one that enters a frame or leaves one takes a turn
+pub takes-crossing : (instr : Instr) → IsCrossing instr → (test : Bool) → MatchBool test (AlwaysTakesTurn instr) (NeverTakesTurn instr) → test ≡ true
+takes-crossing instr crosses true always = refl
+takes-crossing instr crosses false never = absurd (one_of instr (turns_crossing instr crosses) never)
+
 -- a run goes on from an instruction that takes no turn to the next line
-next_line : (instr : Instr) (jump : Jump) (place next : ℕ) → NeverTakesTurn instr → Contains (next_places instr jump place) next → next ≡ place + 1
-next_line (Var x e) jump place next never at = Contains-one (place + 1) next at
-next_line (Drop x) jump place next never at = Contains-one (place + 1) next at
-next_line (Assign x e) jump place next never at = Contains-one (place + 1) next at
-next_line (Print e) jump place next never at = Contains-one (place + 1) next at
-next_line (Read x) jump place next never at = Contains-one (place + 1) next at
-next_line (Branch e a b) jump place next never at = absurd (one_of (Branch e a b) (turns_branch e a b) never)
-next_line (Goto a) jump place next never at = absurd (one_of (Goto a) (λ program choice frame label s. refl) never)
-next_line (Return e) jump place next never at = absurd (omega (arith, at.1))
-next_line Stop jump place next never at = absurd (omega (arith, at.1))
+next_line : (instr : Instr) (jump : Jump) (next place : ℕ) → NeverTakesTurn instr → Contains (following instr jump next) place → place ≡ next
+next_line (Var x e) jump next place never at = Contains-one next place at
+next_line (Drop x) jump next place never at = Contains-one next place at
+next_line (Assign x e) jump next place never at = Contains-one next place at
+next_line (ArrayLength x e) jump next place never at = Contains-one next place at
+next_line (ArrayList x es) jump next place never at = Contains-one next place at
+next_line (Store x index e) jump next place never at = Contains-one next place at
+next_line (Print e) jump next place never at = Contains-one next place at
+next_line (Read x) jump next place never at = Contains-one next place at
+next_line (Branch e a b) jump next place never at = absurd (one_of (Branch e a b) (turns_branch e a b) never)
+next_line (Goto a) jump next place never at = absurd (one_of (Goto a) (λ program choice frame label s. refl) never)
+next_line (Call x callee es) jump next place never at = Contains-one next place at
+next_line (Return e) jump next place never at = absurd (omega (arith, at.1))
+next_line Stop jump next place never at = absurd (omega (arith, at.1))
 
 -- an instruction leaves less before the run
-pub before-always : (program : ProgramView) (input : List Literal) (budget : ℕ) (old new : Moment) (line : Line) (jump : Jump) → IsAt program old line jump → ActsAs program input line.instr old new
-    → AlwaysTakesTurn line.instr → old.turns < budget → before budget (length (main_lines program)) new < before budget (length (main_lines program)) old
-before-always program input budget old new line jump at acts always left =
-    before-turn budget (length (main_lines program)) old new at.going at.within left (turns-always program input old new line jump at acts always)
+pub before-always : (program : ProgramView) (input : List Literal) (budget : ℕ) (old new : Moment) (line : Line) → IsAt program old line → ActsAs program input line.instr old new
+    → AlwaysTakesTurn line.instr → old.turns < budget → before budget (length (frame_lines program old.frame)) new < before budget (length (frame_lines program old.frame)) old
+before-always program input budget old new line at acts always left =
+    before-turn budget (length (frame_lines program old.frame)) old new at.going at.within left (turns-always program input old new line.instr acts always)
 
-pub before-never : (program : ProgramView) (input : List Literal) (budget : ℕ) (old new : Moment) (line : Line) (jump : Jump) → IsAt program old line jump → ActsAs program input line.instr old new
-    → NeverTakesTurn line.instr → ComesTo line.instr (next_places line.instr jump old.place) old.env new new.end → before budget (length (main_lines program)) new < before budget (length (main_lines program)) old
+pub before-never : (program : ProgramView) (input : List Literal) (budget : ℕ) (old new : Moment) (line : Line) (jump : Jump) → IsAt program old line → ActsAs program input line.instr old new
+    → NeverTakesTurn line.instr → ComesTo line.instr (following line.instr jump (old.frame.place + 1)) old.frame.env new new.end
+    → before budget (length (frame_lines program old.frame)) new < before budget (length (frame_lines program old.frame)) old
 before-never program input budget old new line jump at acts never comes =
-    let Comes : End → Type 0 = ComesTo line.instr (next_places line.instr jump old.place) old.env new in
-    before-line budget (length (main_lines program)) old new at.going at.within (turns-never program input old new line jump at acts never)
-    (λ going. next_line line.instr jump old.place new.place never (subst Comes going comes).place)
+    let Comes : End → Type 0 = ComesTo line.instr (following line.instr jump (old.frame.place + 1)) old.frame.env new in
+    before-line budget (length (frame_lines program old.frame)) old new at.going at.within (turns-never program input old new line.instr acts never)
+    (λ going. next_line line.instr jump (old.frame.place + 1) new.frame.place never (subst Comes going comes).place)
+
+-- from a place of lines that end in a terminator on they end in one
+ends_from : (lines : List Line) (place : ℕ) → place < length lines → EndsInTerminator lines → EndsInTerminator (drop place lines)
+ends_from [] place within end = absurd end
+ends_from (line ∷ lines) zero within end = end
+ends_from (line ∷ []) (suc place) within end = absurd (omega arith)
+ends_from (line ∷ next ∷ lines) (suc place) within end = ends_from (next ∷ lines) place (omega arith) end
 
 -- where the run goes on there is a line, and the path goes on to it
-StandsAtLine-act : (program : ProgramView) (old new : Moment) (line : Line) (jump : Jump) → IsAt program old line jump → GoesFurther line.instr (next_places line.instr jump old.place) old.env new
-    → StandsAtLine program old.place old.env → StandsAtLine program new.place new.env
-StandsAtLine-act program old new line jump at further stands =
-    let lines = main_lines program in
+StandsAtLine-act : (program : ProgramView) (old new : Moment) (line : Line) (jump : Jump) → IsAt program old line → GoesTo (frame_lines program old.frame) line.instr jump → StaysInFrame old new
+    → GoesFurther line.instr (following line.instr jump (old.frame.place + 1)) old.frame.env new → StandsAtLine program old.frame None → StandsAtLine program new.frame None
+StandsAtLine-act program old new line jump at goes stays further stands =
+    let all = frame_lines program old.frame in
+    let own : all ≡ stands.version.body.lines = frame_lines-are program old.frame stands.version stands.runs in
+    let place = old.frame.place in
+    let next = new.frame.place in
+    let inside : next < length all =
+    All-Contains (λ place. place < length all) (following line.instr jump (place + 1)) next (following_within all place line jump at.ends at.found goes) further.place in
+    let Ends : List Line → Type 0 = λ lines. EndsInTerminator (drop next lines) in
+    let Follows : List Line → Type 0 = λ lines. Contains (followers line.instr (label_at lines (place + 1))) (label_at lines next) in
     record {
-      line = λ terminated. EndsInTerminator-next_places lines line.instr jump old.place new.place at.goes further.place terminated
-          (λ going. EndsInTerminator-next lines old.place line at.found going (stands.line terminated));
+      version = stands.version;
+      runs = ap (λ code. version_of_code program (code_of code)) stays.code ∙ stands.runs;
+      line = λ terminated. subst Ends own (ends_from all next inside at.ends);
       count = suc stands.count;
       path = (
-        main_label program old.place,
-        scope_of old.env,
+        label_at stands.version.body.lines place,
+        scope_of old.frame.env,
         line,
-        drop (old.place + 1) lines,
+        drop (place + 1) stands.version.body.lines,
         stands.path,
-        IsLineAt-place program old line jump at,
-        Contains-followers lines line.instr jump old.place new.place at.goes further.place,
+        IsLineAt-version program old line stands.version stands.runs at,
+        subst Follows own (Contains-followers all line.instr jump place next goes further.place),
         further.scope,
       );
       row = further.row ∙ stands.row;
     }
 
-pub Stands-act : (program : ProgramView) (input : List Literal) (old new : Moment) (line : Line) (jump : Jump) → IsAt program old line jump → ComesTo line.instr (next_places line.instr jump old.place) old.env new new.end → new.read ≤ length input
-    → StandsAtLine program old.place old.env → Stands program input new
-Stands-act program input old new line jump at comes within stands =
-    let Comes : End → Type 0 = ComesTo line.instr (next_places line.instr jump old.place) old.env new in
+pub Stands-act : (program : ProgramView) (input : List Literal) (old new : Moment) (line : Line) (jump : Jump) → IsAt program old line → GoesTo (frame_lines program old.frame) line.instr jump → StaysInFrame old new
+    → ComesTo line.instr (following line.instr jump (old.frame.place + 1)) old.frame.env new new.end → new.read ≤ length input → old.turns ≤ new.turns → Stands program input old → Stands program input new
+Stands-act program input old new line jump at goes stays comes within turns stands =
+    let Comes : End → Type 0 = ComesTo line.instr (following line.instr jump (old.frame.place + 1)) old.frame.env new in
+    let Below : List Waiting → Type 0 = AllByRecursion (StandsWaiting program) in
     record {
       within = within;
-      at_line = λ going. StandsAtLine-act program old new line jump at (subst Comes going comes) stands;
+      at_line = λ going. StandsAtLine-act program old new line jump at goes stays (subst Comes going comes) (stands.at_line at.going);
+      below = subst Below (sym stays.below) stands.below;
+      calls = omega (arith, stays.calls, stands.calls);
     }
-
-rests_on : (program : ProgramView) (budget : ℕ) (s : State) → IsAtBudget program budget s → IsSome s.ending ⊎ TakesTurn program s
-rests_on program budget s (inl ended) = inl ended.0
-rests_on program budget s (inr going) = inr going.2
-
--- a run rests where it has answered
-pub IsAtRest-Tells : (answered : Advance) (budget : ℕ) (run : RunView) → Tells answered budget run → IsAtRest run
-IsAtRest-Tells answer.Ended budget run told = inr (told.0.entered, inl told.1)
-IsAtRest-Tells answer.MoreTurns budget run told = inr (told.0.entered, rests_on run.program budget run.state told.0.rests)
-IsAtRest-Tells answer.Memory budget run told = inl told
 
 -- no instruction finds that memory is wanting
 pub has_memory-act : (instr : Instr) (places : List ℕ) (environment : Environment) (new : Moment) (end : End) → ComesTo instr places environment new end → end ≢ Memory
@@ -301,3 +301,9 @@ has_memory-act instr places environment new Stopped comes is = cc
 has_memory-act instr places environment new (Trapped trap) comes is = cc
 has_memory-act instr places environment new Cut comes is = cc
 has_memory-act instr places environment new Memory comes is = comes
+
+-- the run stands at an instruction that enters a frame or leaves one
+pub StandsCrossing-line : (program : ProgramView) (budget : ℕ) (old new : Moment) (line : Line) → IsAt program old line → new ≡ old → IsCrossing line.instr → old.turns < budget → StandsCrossing program budget new
+StandsCrossing-line program budget old new line at same crosses left =
+    let At : Moment → Type 0 = StandsCrossing program budget in
+    subst At (sym same) (record { going = at.going; left = left; line = line; found = at.found; crosses = crosses })

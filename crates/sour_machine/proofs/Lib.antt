@@ -1,7 +1,12 @@
-mod Evaluations
+mod EachValue
+mod HeapLaws
+mod ArrayLaws
+mod Operations
 mod Instructions
 mod Scopes
 mod Jumps
+mod FrameLaws
+mod RunLaws
 mod Measure
 mod Advances
-pub mod Rests
+mod CallLaws

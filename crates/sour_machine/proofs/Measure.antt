@@ -1,4 +1,4 @@
--- What a run has before it, which ends the loop over the lines of main.
+-- What a run has before it, which ends the loop over the lines of a body.
 use Rattle.std.proofs.Common.{◌≡◌, ℕ, ◌+◌, ◌-◌, ◌*◌, ◌<◌, refl, ap, arith}
 use Rattle.std.proofs.Math.Nat.{mul_comm}
 use Rattle.std.proofs.lemmas.Nat.{mul-add-lt}
@@ -14,9 +14,13 @@ unless_over Stopped left = 0
 unless_over (Trapped trap) left = 0
 unless_over Memory left = 0
 
+-- for each turn that is left one, and one more
+abbrev pub turns_before : ℕ → Moment → ℕ
+turns_before budget moment = unless_over moment.end (budget - moment.turns + 1)
+
 -- for each turn that is left all the lines and one more, and the lines from the place on
 abbrev pub before : ℕ → ℕ → Moment → ℕ
-before budget lines moment = unless_over moment.end ((budget - moment.turns) * (lines + 1) + (lines - moment.place))
+before budget lines moment = unless_over moment.end ((budget - moment.turns) * (lines + 1) + (lines - moment.frame.place))
 
 -- fewer times, whatever is added to it
 less : (few many each p q : ℕ) → few < many → p < each → few * each + p < many * each + q
@@ -29,24 +33,24 @@ below Stopped left all some going = some
 below (Trapped trap) left all some going = some
 below Memory left all some going = some
 
-module _ (budget lines : ℕ) (old new : Moment) (going : old.end ≡ Cut) (within : old.place < lines) where
-  at_old : before budget lines old ≡ (budget - old.turns) * (lines + 1) + (lines - old.place)
-  at_old = ap (λ end. unless_over end ((budget - old.turns) * (lines + 1) + (lines - old.place))) going
+module _ (budget lines : ℕ) (old new : Moment) (going : old.end ≡ Cut) (within : old.frame.place < lines) where
+  at_old : before budget lines old ≡ (budget - old.turns) * (lines + 1) + (lines - old.frame.place)
+  at_old = ap (λ end. unless_over end ((budget - old.turns) * (lines + 1) + (lines - old.frame.place))) going
 
-  falls : (new.end ≡ Cut → (budget - new.turns) * (lines + 1) + (lines - new.place) < (budget - old.turns) * (lines + 1) + (lines - old.place))
+  falls : (new.end ≡ Cut → (budget - new.turns) * (lines + 1) + (lines - new.frame.place) < (budget - old.turns) * (lines + 1) + (lines - old.frame.place))
       → before budget lines new < before budget lines old
   falls fewer =
-      let fallen : before budget lines new < (budget - old.turns) * (lines + 1) + (lines - old.place) =
-      below new.end ((budget - new.turns) * (lines + 1) + (lines - new.place)) ((budget - old.turns) * (lines + 1) + (lines - old.place)) (omega arith) fewer in
+      let fallen : before budget lines new < (budget - old.turns) * (lines + 1) + (lines - old.frame.place) =
+      below new.end ((budget - new.turns) * (lines + 1) + (lines - new.frame.place)) ((budget - old.turns) * (lines + 1) + (lines - old.frame.place)) (omega arith) fewer in
       rw at_old fallen
 
   -- a turn was taken
   pub before-turn : old.turns < budget → new.turns ≡ old.turns + 1 → before budget lines new < before budget lines old
-  before-turn left taken = falls (λ on. less (budget - new.turns) (budget - old.turns) (lines + 1) (lines - new.place) (lines - old.place) (omega arith) (omega arith))
+  before-turn left taken = falls (λ on. less (budget - new.turns) (budget - old.turns) (lines + 1) (lines - new.frame.place) (lines - old.frame.place) (omega arith) (omega arith))
 
   -- or the run went on to the next line
-  pub before-line : new.turns ≡ old.turns → (new.end ≡ Cut → new.place ≡ old.place + 1) → before budget lines new < before budget lines old
+  pub before-line : new.turns ≡ old.turns → (new.end ≡ Cut → new.frame.place ≡ old.frame.place + 1) → before budget lines new < before budget lines old
   before-line same next = falls (λ on.
-      let further : new.place ≡ old.place + 1 = next on in
+      let further : new.frame.place ≡ old.frame.place + 1 = next on in
       let turns : (budget - new.turns) * (lines + 1) ≡ (budget - old.turns) * (lines + 1) = ap (λ turns. (budget - turns) * (lines + 1)) same in
       omega (arith, turns))

@@ -7,7 +7,6 @@ use Rattle.std.proofs.lemmas.Option.{get_or_from_slice_get}
 use Rattle.sour_syntax.specs.declared.instruction.Instr.{Instr}
 use Rattle.sour_syntax.specs.declared.literal.Value.{Value}
 use Rattle.sour_semantics.specs.State.{Environment}
-use Rattle.sour_semantics.specs.Run.{empty_environment}
 use Rattle.sour_semantics.specs.Validity.{scope_of}
 use Rattle.sour_machine.specs.declared.moment.Moment.{Moment}
 use Rattle.sour_machine.specs.declared.report.End.{End}
@@ -24,11 +23,6 @@ All-at P (first ∷ xs) (suc place) x found all = All-at P xs place x found all.
 pub set-same : (scope : List Bool) (place : ℕ) → slice_get scope place ≡ Some true → set scope place true ≡ scope
 set-same scope place found =
     ap (set scope place) (sym (get_or_from_slice_get scope place true true found)) ∙ set-get_or scope place true
-
--- no variable of a new row has a value
-pub scope_of-empty : (count : ℕ) → scope_of (empty_environment count) ≡ replicate count false
-scope_of-empty zero = refl
-scope_of-empty (suc count) = ap (λ rest. false ∷ rest) (scope_of-empty count)
 
 -- the scope of an environment in which a variable got a value, or lost it
 pub scope_of-set : (old new : Environment) (x : ℕ) (kept : Option Value) → new ≡ set old x kept → scope_of new ≡ set (scope_of old) x (is_some kept)

@@ -1,18 +1,23 @@
-use Rattle.std.specs.Prelude.{◌≡◌, ℕ, ◌+◌, ◌<◌, List, [], ◌∷◌, length, Contains}
+-- What the code of an instruction does to a moment of a run.
+use Rattle.std.specs.Prelude.{◌≡◌, ℕ, ◌+◌, ◌<◌, ◌≤◌, List, [], ◌∷◌, ◌++◌, true, None, Some, length, Contains, slice_get, slice_set}
 use Rattle.std.specs.List.{AllByRecursion}
 use Rattle.sour_syntax.specs.declared.instruction.Instr.{Instr}
-use Rattle.sour_syntax.specs.declared.instruction.Instr.TheVariants.{Var, Drop, Assign, Print, Read, Branch, Goto, Return, Stop}
-use Rattle.sour_syntax.specs.declared.jump.Jump.{Jump}
+use Rattle.sour_syntax.specs.declared.instruction.Instr.TheVariants.{Var, Drop, Assign, ArrayLength, ArrayList, Store, Print, Read, Branch, Goto, Call, Return, Stop}
+use Rattle.sour_syntax.specs.declared.instruction.Line.{Line}
 use Rattle.sour_syntax.specs.declared.literal.Literal.{Literal}
+use Rattle.sour_syntax.specs.declared.literal.VarId.{VarId}
+use Rattle.sour_syntax.specs.Labels.{label_at}
 use Rattle.sour_syntax.specs.Program.{ProgramView}
 use Rattle.sour_syntax.specs.Scopes.{IsInScope, needed, mentioned, scope_after}
 use Rattle.sour_semantics.specs.State.{Environment, Frame, State}
 use Rattle.sour_semantics.specs.Step.{Choice, text_choice, act}
 use Rattle.sour_semantics.specs.Validity.{scope_of}
+use Rattle.sour_machine.specs.declared.frame.Waiting.{Waiting}
 use Rattle.sour_machine.specs.declared.moment.Moment.{Moment}
 use Rattle.sour_machine.specs.declared.report.End.{End}
 use Rattle.sour_machine.specs.declared.report.End.TheVariants.{Returned, Stopped, Trapped, Cut, Memory}
-use Rattle.sour_machine.specs.Moment.{main_label, main_frame, state_at}
+use Rattle.sour_machine.specs.Frame.{frame_lines, frame_at, StandsAtLine, StandsWaiting}
+use Rattle.sour_machine.specs.Moment.{state_at}
 
 -- each variable that an instruction needs has a value, and each that it mentions has its place
 pub record IsReady (instr : Instr) (environment : Environment) : Type 0 where
@@ -22,25 +27,29 @@ pub record IsReady (instr : Instr) (environment : Environment) : Type 0 where
 -- an instruction of this program does to the moment what its meaning does to the state of a run on this input
 abbrev pub ActsAs : ProgramView → List Literal → Instr → Moment → Moment → Type 0
 ActsAs program input instr old new =
-    state_at program input new ≡ act program text_choice (main_frame program old.place old.env) instr (main_label program (old.place + 1)) (state_at program input old)
+    state_at program input new ≡ act program text_choice (frame_at program old.frame None) instr (label_at (frame_lines program old.frame) (old.frame.place + 1)) (state_at program input old)
 
--- the places at which a run may go on behind an instruction at this place that goes by name where the jump says
-abbrev pub next_places : Instr → Jump → ℕ → List ℕ
-next_places (Var x e) jump place = (place + 1) ∷ []
-next_places (Drop x) jump place = (place + 1) ∷ []
-next_places (Assign x e) jump place = (place + 1) ∷ []
-next_places (Print e) jump place = (place + 1) ∷ []
-next_places (Read x) jump place = (place + 1) ∷ []
-next_places (Branch e a b) jump place = jump.first ∷ jump.second ∷ []
-next_places (Goto a) jump place = jump.first ∷ []
-next_places (Return e) jump place = []
-next_places Stop jump place = []
+-- it is one that enters a frame or leaves one
+abbrev pub IsCrossing : Instr → Type 0
+IsCrossing (Var x e) = ⊥
+IsCrossing (Drop x) = ⊥
+IsCrossing (Assign x e) = ⊥
+IsCrossing (ArrayLength x e) = ⊥
+IsCrossing (ArrayList x es) = ⊥
+IsCrossing (Store x index e) = ⊥
+IsCrossing (Print e) = ⊥
+IsCrossing (Read x) = ⊥
+IsCrossing (Branch e a b) = ⊥
+IsCrossing (Goto a) = ⊥
+IsCrossing (Call x callee es) = Unit {0}
+IsCrossing (Return e) = Unit {0}
+IsCrossing Stop = ⊥
 
--- the run goes on at one of these places, with the scope that the instruction leaves of this environment
+-- the run goes on in the same frame at one of these places, with the scope that the instruction leaves of this environment
 pub record GoesFurther (instr : Instr) (places : List ℕ) (environment : Environment) (new : Moment) : Type 0 where
-  pub place : Contains places new.place
-  pub scope : scope_of new.env ≡ scope_after instr (scope_of environment)
-  pub row : length new.env ≡ length environment
+  pub place : Contains places new.frame.place
+  pub scope : scope_of new.frame.env ≡ scope_after instr (scope_of environment)
+  pub row : length new.frame.env ≡ length environment
 
 -- how far an instruction has brought a run that had this environment and may go on at these places, by what ends the run then
 abbrev pub ComesTo : Instr → List ℕ → Environment → Moment → End → Type 0
@@ -49,6 +58,74 @@ ComesTo instr places environment new (Returned value) = Unit {0}
 ComesTo instr places environment new Stopped = Unit {0}
 ComesTo instr places environment new (Trapped trap) = Unit {0}
 ComesTo instr places environment new Memory = ⊥
+
+-- the same where the instruction declares a variable
+pub record DeclaresFurther (x : VarId) (places : List ℕ) (environment : Environment) (new : Moment) : Type 0 where
+  pub place : Contains places new.frame.place
+  pub scope : scope_of new.frame.env ≡ slice_set (scope_of environment) x.0 true
+  pub row : length new.frame.env ≡ length environment
+
+abbrev pub ComesDeclaring : VarId → List ℕ → Environment → Moment → End → Type 0
+ComesDeclaring x places environment new Cut = DeclaresFurther x places environment new
+ComesDeclaring x places environment new (Returned value) = Unit {0}
+ComesDeclaring x places environment new Stopped = Unit {0}
+ComesDeclaring x places environment new (Trapped trap) = Unit {0}
+ComesDeclaring x places environment new Memory = ⊥
+
+-- no frame was entered: the frames below are the same, and so is the code of the top one
+pub record StaysInFrame (old new : Moment) : Type 0 where
+  pub calls : new.calls ≡ old.calls
+  pub code : new.frame.code ≡ old.frame.code
+  pub below : new.below ≡ old.below
+
+-- a frame was entered: the old one waits at its next line for a result in this variable, and the new one stands at its first line
+pub record Enters (program : ProgramView) (x : VarId) (old new : Moment) : Type 0 where
+  pub below : new.below ≡ old.below ++ record { frame = record old.frame { place = old.frame.place + 1 }; result = x } ∷ []
+  pub stands : StandsAtLine program new.frame None
+  pub calls : new.calls ≡ old.calls + 1
+
+-- by what ends the run after a call
+abbrev pub EntersOr : ProgramView → VarId → Moment → Moment → End → Type 0
+EntersOr program x old new Cut = Enters program x old new
+EntersOr program x old new (Returned value) = ⊥
+EntersOr program x old new Stopped = ⊥
+EntersOr program x old new (Trapped trap) = StaysInFrame old new
+EntersOr program x old new Memory = ⊥
+
+-- the result for which a frame waits has its place in the environment
+abbrev pub HasPlaces : Waiting → Type 0
+HasPlaces waiting = waiting.result.0 < length waiting.frame.env
+
+-- a frame was left, if there was one below it: where each frame below stood at its line, the new top one does, and so does each that is still below
+pub record Leaves (program : ProgramView) (old new : Moment) : Type 0 where
+  pub top : AllByRecursion (StandsWaiting program) old.below → new.end ≡ Cut → StandsAtLine program new.frame None
+  pub below : AllByRecursion (StandsWaiting program) old.below → AllByRecursion (StandsWaiting program) new.below
+  pub fewer : length new.below ≤ length old.below
+  pub calls : new.calls ≡ old.calls
+
+-- what an instruction that enters a frame or leaves one did to the frames
+abbrev pub CrossesTo : ProgramView → Instr → Moment → Moment → Type 0
+CrossesTo program (Var x e) old new = ⊥
+CrossesTo program (Drop x) old new = ⊥
+CrossesTo program (Assign x e) old new = ⊥
+CrossesTo program (ArrayLength x e) old new = ⊥
+CrossesTo program (ArrayList x es) old new = ⊥
+CrossesTo program (Store x index e) old new = ⊥
+CrossesTo program (Print e) old new = ⊥
+CrossesTo program (Read x) old new = ⊥
+CrossesTo program (Branch e a b) old new = ⊥
+CrossesTo program (Goto a) old new = ⊥
+CrossesTo program (Call x callee es) old new = EntersOr program x old new new.end
+CrossesTo program (Return e) old new = Leaves program old new
+CrossesTo program Stop old new = ⊥
+
+-- the run goes on at a line that enters a frame or leaves one, and has turns left for it
+pub record StandsCrossing (program : ProgramView) (budget : ℕ) (moment : Moment) : Type 0 where
+  pub going : moment.end ≡ Cut
+  pub left : moment.turns < budget
+  pub line : Line
+  pub found : slice_get (frame_lines program moment.frame) moment.frame.place ≡ Some line
+  pub crosses : IsCrossing line.instr
 
 -- an instruction takes a turn, wherever it stands
 abbrev pub AlwaysTakesTurn : Instr → Type 0

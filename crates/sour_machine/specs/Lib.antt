@@ -1,6 +1,9 @@
 pub mod End
 pub mod Scope
 pub mod Operands
+pub mod Cells
+pub mod Text
+pub mod Frame
 pub mod Run
 pub mod Moment
 pub mod Instruction

@@ -1,13 +1,12 @@
-use Rattle.std.specs.Prelude.{◌≡◌, ◌⊎◌, ℕ, List, ◌∷◌, Bool, false, None, IsSome, IsTrue}
-use Rattle.sour_syntax.specs.declared.expression.Expr.{Expr}
+use Rattle.std.specs.Prelude.{◌≡◌, ◌⊎◌, ◌+◌, ℕ, zero, suc, List, ◌∷◌, Bool, true, false, None, IsSome, IsTrue, length, nat_lt, if◌then◌else◌}
 use Rattle.sour_syntax.specs.declared.instruction.Instr.{Instr}
-use Rattle.sour_syntax.specs.declared.instruction.Instr.TheVariants.{Print}
+use Rattle.sour_syntax.specs.declared.instruction.Instr.TheVariants.{Var, Drop, Assign, ArrayLength, ArrayList, Store, Print, Read, Branch, Goto, Call, Return, Stop}
 use Rattle.sour_syntax.specs.declared.instruction.Line.{Line}
 use Rattle.sour_syntax.specs.declared.literal.Literal.{Literal}
 use Rattle.sour_syntax.specs.Labels.{from_label}
 use Rattle.sour_syntax.specs.Program.{ProgramView}
 use Rattle.sour_semantics.specs.State.{Frame, State}
-use Rattle.sour_semantics.specs.Step.{lines_of}
+use Rattle.sour_semantics.specs.Step.{text_choice, step, lines_of}
 use Rattle.sour_semantics.specs.Run.{text_run, TakesTurn, IsAtBudget}
 use Rattle.sour_machine.specs.declared.run.Advance.{Advance}
 use Rattle.sour_machine.specs.declared.run.Advance.TheVariants.{Ended, MoreTurns, Memory}
@@ -21,6 +20,24 @@ pub record RunView : Type 0 where
   pub entered : Bool
   -- it has answered that memory was wanting
   pub wanting : Bool
+  -- how many frames were entered
+  pub calls : ℕ
+
+-- a step enters a frame where it leaves more of them
+abbrev pub entered_by : State → State → ℕ
+entered_by s next = if nat_lt (length s.frames) (length next.frames) then 1 else 0
+
+-- how many frames a run of the text enters in so many steps from a state
+abbrev pub count_calls : ProgramView → ℕ → State → ℕ
+count_calls program zero s = 0
+count_calls program (suc count) s =
+    entered_by s (step program text_choice s) + count_calls program count (step program text_choice s)
+
+-- whether main was entered, by whether it had been before and has been since
+abbrev pub main_entered : Bool → Bool → ℕ
+main_entered false false = 0
+main_entered false true = 1
+main_entered true entered = 0
 
 -- the run went on from the one to the other, by steps that enter text versions alone
 pub record GoesOn (old new : RunView) : Type 0 where
@@ -28,6 +45,7 @@ pub record GoesOn (old new : RunView) : Type 0 where
   pub input : new.input ≡ old.input
   pub steps : ℕ
   pub reached : text_run old.program steps old.state ≡ new.state
+  pub calls : new.calls ≡ old.calls + main_entered old.entered new.entered + count_calls old.program steps old.state
   pub entered : IsTrue old.entered → IsTrue new.entered
   -- no step is taken before main is entered
   pub before_main : new.entered ≡ false → new.state ≡ old.state
@@ -49,17 +67,28 @@ abbrev pub IsAtRest : RunView → Type 0
 IsAtRest run =
     IsTrue run.wanting ⊎ (IsTrue run.entered × (IsSome run.state.ending ⊎ TakesTurn run.program run.state))
 
--- the instruction is a `print`
-pub record IsPrint (instr : Instr) : Type 0 where
-  pub expr : Expr
-  pub is : instr ≡ Print expr
+-- the instruction takes memory: it writes, makes an array or enters a frame
+abbrev pub TakesMemory : Instr → Type 0
+TakesMemory (Var x e) = ⊥
+TakesMemory (Drop x) = ⊥
+TakesMemory (Assign x e) = ⊥
+TakesMemory (ArrayLength x e) = Unit {0}
+TakesMemory (ArrayList x es) = Unit {0}
+TakesMemory (Store x index e) = ⊥
+TakesMemory (Print e) = Unit {0}
+TakesMemory (Read x) = ⊥
+TakesMemory (Branch e a b) = ⊥
+TakesMemory (Goto a) = ⊥
+TakesMemory (Call x callee es) = Unit {0}
+TakesMemory (Return e) = ⊥
+TakesMemory Stop = ⊥
 
--- the line at which the top frame of the run stands is a `print`
-pub record StandsAtPrint (run : RunView) : Type 0 where
+-- the line at which the top frame of the run stands is one that takes memory
+pub record StandsWanting (run : RunView) : Type 0 where
   pub frame : Frame
   pub others : List Frame
   pub line : Line
   pub behind : List Line
   pub top : run.state.frames ≡ frame ∷ others
   pub stands : from_label frame.label (lines_of run.program frame.code) ≡ line ∷ behind
-  pub prints : IsPrint line.instr
+  pub takes : TakesMemory line.instr

@@ -1,7 +1,6 @@
-ghost use Rattle.std.specs.Prelude.{◌≡◌, ◌<◌, Some, None, length, slice_get, slice_set, IfOk};
+ghost use Rattle.std.specs.Prelude.{◌≡◌, ◌<◌, ◌≤◌, ◌-◌, ◌++◌, ◌∷◌, [], Some, None, length, replicate, slice_get, slice_set, IfOk, OnOk, OnErr};
 ghost use Rattle.std.specs.Option.{option_flatten};
 ghost use Rattle.sour_syntax.specs.Scopes.{IsInScope};
-ghost use Rattle.sour_semantics.specs.Run.{empty_environment};
 ghost use Rattle.sour_semantics.specs.Validity.{scope_of};
 
 use sour_syntax::{Value, VarId};
@@ -23,12 +22,44 @@ impl Model for Env {
 }
 
 impl Env {
-    /// So many variables, none of which has a value.
-    pub fn new(alloc: Global, count: usize) -> Result<Env, AllocError>
-        ensures { IfOk result (λ env. env ≡ empty_environment count) }
+    /// No variables. It takes no memory.
+    pub fn new(alloc: Global) -> Env
+        ensures { result ≡ [] }
     {
-        let values = Vec::from_elem(alloc, None, count)?;
-        Ok(Env { values })
+        Env {
+            values: Vec::new(alloc),
+        }
+    }
+
+    /// How many variables there are.
+    pub fn len(&self) -> usize
+        ensures { result ≡ length self.now }
+    {
+        self.values.len()
+    }
+
+    /// Puts a variable with this value behind the others.
+    pub fn push(&mut self, value: Value) -> Result<(), AllocError>
+        ensures ok { OnOk result (self.new ≡ self.old ++ Some value ∷ []) }
+        ensures err { OnErr result (self.new ≡ self.old) }
+    {
+        self.values.push(Some(value))?;
+        Ok(())
+    }
+
+    /// Puts variables without a value behind the others, up to this number of variables.
+    pub fn extend_to(&mut self, count: usize) -> Result<(), AllocError>
+        requires { length self.old ≤ count }
+        ensures { OnOk result (self.new ≡ self.old ++ replicate (count - length self.old) None) }
+    {
+        self.values.resize(count, None)
+    }
+
+    /// Takes all variables out, and keeps the room for as many.
+    pub(crate) fn clear_all(&mut self)
+        ensures { self.new ≡ [] }
+    {
+        self.values.clear();
     }
 
     /// The value of a variable, where it has one.

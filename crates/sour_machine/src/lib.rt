@@ -5,21 +5,29 @@
 mod act;
 mod advance;
 mod arithmetic;
+mod arrays;
+mod calls;
 mod comparison;
 mod env;
 mod evaluation;
+mod evaluations;
+mod frame;
+mod heap;
 mod moment;
 mod output;
 mod report;
 mod run;
+mod spare_rows;
 mod text;
 mod truths;
+mod waiting_frames;
 
 pub use env::Env;
 pub use evaluation::eval;
+pub use heap::Heap;
 pub use report::{End, Report};
 pub use run::{Advance, Run};
-pub use text::value_text;
+pub use text::{value_head, value_middle, value_tail, value_text};
 
 #[cfg(test)]
 mod tests;

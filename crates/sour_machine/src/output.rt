@@ -1,4 +1,4 @@
-ghost use Rattle.std.specs.Prelude.{◌≡◌, ◌-◌, [], ◌∷◌, ◌++◌, length, OnOk, OnErr};
+ghost use Rattle.std.specs.Prelude.{◌≡◌, ◌≤◌, ◌+◌, ◌-◌, [], ◌∷◌, ◌++◌, length, OnOk, OnErr};
 ghost use Rattle.sour_semantics.specs.Step.{output_limit};
 
 use sour_syntax::List;
@@ -42,13 +42,22 @@ impl Output {
         OUTPUT_LIMIT.saturating_sub(self.bytes.len())
     }
 
-    /// Writes a text and a line feed, or nothing where memory is wanting.
-    pub(crate) fn write_line(&mut self, text: &[u8]) -> Result<(), AllocError>
-        ensures ok { OnOk result (self.new ≡ self.old ++ (text.now ++ 10 ∷ [])) }
+    /// Writes a text of three parts and a line feed, or nothing where memory is wanting.
+    pub(crate) fn write_line(
+        &mut self,
+        head: &[u8],
+        middle: &[u8],
+        tail: &[u8],
+    ) -> Result<(), AllocError>
+        requires { length head.now + length middle.now + length tail.now ≤ output_limit }
+        ensures ok { OnOk result (self.new ≡ self.old ++ ((head.now ++ middle.now ++ tail.now) ++ 10 ∷ [])) }
         ensures err { OnErr result (self.new ≡ self.old) }
     {
-        self.bytes.reserve(text.len() + 1)?;
-        self.bytes.extend_from_slice(text)?;
+        self.bytes
+            .reserve(head.len() + middle.len() + tail.len() + 1)?;
+        self.bytes.extend_from_slice(head)?;
+        self.bytes.extend_from_slice(middle)?;
+        self.bytes.extend_from_slice(tail)?;
         self.bytes.push(b'\n')?;
         Ok(())
     }

@@ -30,14 +30,16 @@ pub struct Report {
     pub read: u64,
     /// The turns that it took.
     pub turns: u64,
-    /// How many calls entered a function; entering `main` is the first.
+    /// How many calls entered a frame; entering `main` is the first.
     pub calls: u64,
+    /// How many cells the array has that `main` returned; 0 where it returned none.
+    pub cells: u64,
 }
 
 impl Report {
     /// The report on an input for which there was no memory to run at all. It takes no memory.
     pub fn wanting(alloc: Global, input: u64) -> Report
-        ensures { result ≡ record { input = input; output = []; end = End.Memory; read = 0; turns = 0; calls = 0 } }
+        ensures { result ≡ record { input = input; output = []; end = End.Memory; read = 0; turns = 0; calls = 0; cells = 0 } }
     {
         Report {
             input,
@@ -46,6 +48,7 @@ impl Report {
             read: 0,
             turns: 0,
             calls: 0,
+            cells: 0,
         }
     }
 }

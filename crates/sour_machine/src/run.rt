@@ -1,13 +1,16 @@
-ghost use Rattle.std.specs.Prelude.{◌≡◌, ◌≢◌, ◌+◌, ◌≤◌, ◌↔◌, ◌⊎◌, true, false, length, IsTrue, IfOk, if◌then◌else◌};
+ghost use Rattle.std.specs.Prelude.{◌≡◌, ◌≢◌, ◌+◌, ◌≤◌, ◌↔◌, ◌⊎◌, true, false, length, IsTrue, IfOk};
 ghost use Rattle.sour_semantics.specs.Run.{start};
-ghost use Rattle.sour_machine.specs.End.{ending_of};
-ghost use Rattle.sour_machine.specs.Run.{GoesOn, Tells, IsAtRest, StandsAtPrint};
+ghost use Rattle.sour_machine.specs.End.{ending_of, returned_cells};
+ghost use Rattle.sour_machine.specs.Run.{GoesOn, Tells, IsAtRest, StandsWanting, main_entered};
 
-use crate::advance::{advance, body_of_main};
-use crate::env::Env;
+use crate::advance::advance;
+use crate::frame::Frame;
+use crate::heap::Heap;
 use crate::moment::Moment;
 use crate::output::Output;
 use crate::report::{End, Report};
+use crate::spare_rows::SpareRows;
+use crate::waiting_frames::WaitingFrames;
 use sour_syntax::{List, Literal, Program};
 use std::alloc::{AllocError, Global};
 use std::marker::Model;
@@ -35,6 +38,8 @@ pub struct Run {
     /// Whether it has entered `main`.
     entered: bool,
     moment: Moment,
+    alloc: Global,
+    rows: SpareRows,
 }
 
 impl Model for Run {
@@ -42,11 +47,11 @@ impl Model for Run {
 
     ghost Value = { RunView };
 
-    ghost use Rattle.sour_machine.specs.Moment.{run_at, Stands};
+    ghost use Rattle.sour_machine.specs.Moment.{run_at, IsRun};
 
     ghost view = { λ run. run_at run.program.value run.input run.entered run.moment };
 
-    ghost invariant = { λ run. Stands run.program.value run.input run.moment };
+    ghost invariant = { λ run. IsRun run.program.value run.input run.entered run.moment };
 }
 
 impl Run {
@@ -58,16 +63,19 @@ impl Run {
           state = start program.value input.now;
           entered = false;
           wanting = false;
+          calls = 0;
         }) }
     {
         let input = List::from_vec(Vec::from_slice(alloc, input)?);
-        let variables = body_of_main(&program).variables().len();
+        let frame = Frame::of_main(alloc, &program)?;
         let moment = Moment {
-            place: 0,
-            env: Env::new(alloc, variables)?,
+            frame,
+            below: WaitingFrames::new(alloc),
+            heap: Heap::new(alloc),
             read: 0,
             output: Output::new(alloc),
             turns: 0,
+            calls: 0,
             end: End::Cut,
         };
         Ok(Run {
@@ -75,6 +83,8 @@ impl Run {
             input,
             entered: false,
             moment,
+            alloc,
+            rows: SpareRows::new(alloc),
         })
     }
 
@@ -83,6 +93,16 @@ impl Run {
         ensures { result ≡ self.now.state.turns }
     {
         self.moment.turns
+    }
+
+    /// Enters `main`, if that hasn't been done.
+    fn enter_main(&mut self)
+        ensures same { self.new ≡ record self.old { entered = true; calls = self.old.calls + main_entered self.old.entered true } }
+    {
+        if !self.entered {
+            self.entered = true;
+            self.moment.calls += 1;
+        }
     }
 
     /// Goes on with `turns` further turns. It enters `main` first, if that hasn't been done, which takes
@@ -97,18 +117,20 @@ impl Run {
         // Want of memory is for good.
         ensures wanting { IsTrue self.old.wanting → self.new ≡ self.old }
 
-        // No other instruction than `print` takes memory.
-        ensures memory { result ≡ Advance.Memory → IsTrue self.old.wanting ⊎ StandsAtPrint self.new }
+        // No other instructions take memory than those that write, make an array or enter a frame.
+        ensures memory { result ≡ Advance.Memory → IsTrue self.old.wanting ⊎ StandsWanting self.new }
     {
         if let End::Memory = self.moment.end {
             return Advance::Memory;
         }
-        self.entered = true;
+        self.enter_main();
         let budget = self.moment.turns + turns;
         advance(
+            self.alloc,
             &self.program,
             self.input.as_slice(),
             &mut self.moment,
+            &mut self.rows,
             budget,
         )
     }
@@ -122,17 +144,16 @@ impl Run {
         ensures end { ending_of result.end ≡ self.state.ending }
         ensures read { result.read + length self.state.rest ≡ length self.input }
         ensures turns { result.turns ≡ self.state.turns }
-        ensures calls { result.calls ≡ (if self.entered then 1 else 0) }
+        ensures calls { result.calls ≡ self.calls }
+        ensures cells { result.cells ≡ returned_cells self.state.heap result.end }
     {
-        let Run {
-            entered,
-            moment,
-            ..
-        } = self;
+        let Run { moment, .. } = self;
+        let cells = moment.cells_returned();
         let Moment {
             read,
             output,
             turns,
+            calls,
             end,
             ..
         } = moment;
@@ -142,7 +163,8 @@ impl Run {
             end,
             read: read as u64,
             turns,
-            calls: if entered { 1 } else { 0 },
+            calls,
+            cells,
         }
     }
 }

@@ -4,15 +4,15 @@ use Rattle.std.specs.Prelude.{codes, IsTrue}
 use Rattle.std.specs.Str.{bytes_eq}
 use Rattle.std.proofs.lemmas.Bool.{false≢true}
 use Rattle.sour_reader.specs.declared.raw.RawInstr.{RawInstr}
-use Rattle.sour_reader.specs.declared.raw.RawInstr.TheVariants.{Var, Drop, Assign, Print, Read, Branch, Goto, Return, Stop}
+use Rattle.sour_reader.specs.declared.raw.RawInstr.TheVariants.{Var, Drop, Assign, ArrayLength, ArrayList, Store, Print, Read, Branch, Goto, Call, Return, Stop}
 use Rattle.sour_reader.specs.declared.raw.RawLine.{RawLine}
 use Rattle.sour_reader.specs.declared.raw.RawVersion.{RawVersion}
 use Rattle.sour_reader.specs.Name.{is_reserved}
 use Rattle.sour_reader.specs.Mentions.{instr_names, with_names, with_lines}
-use Rattle.sour_reader.specs.Instruction.{SpellsInstr, SpellsLabelled, SpellsLine}
+use Rattle.sour_reader.specs.Instruction.{SpellsInstr, SpellsLabelled}
 use Rattle.sour_reader.specs.Job.{version_heading, function_end}
 use Rattle.sour_reader.specs.Ahead.{AheadView, AreLeft, ReadsAs, ReadsAsNone, OneLine, EachUpTo}
-use Rattle.sour_reader.specs.Front.{BeginsVersionOrEnd, NextIs, EndVersion, AreShort, HasBody, IsVersionHeading, HasVersion, EndFunction, AreSome}
+use Rattle.sour_reader.specs.Front.{IsLine, BeginsVersionOrEnd, NextIs, EndVersion, AreShort, HasBody, IsVersionHeading, HasVersion, EndFunction, AreSome}
 use Rattle.sour_reader.proofs.Readings.{next_is, left_some, Passes, GoesOn, ReadSoFar, line_reads, reads_with, reads_none_with, reads_both, so_far_none, so_far_more, so_far_end, so_far_nowhere, so_far_longer, so_far_front}
 use Rattle.sour_reader.proofs.Operands.{apart, no_reserved}
 use Rattle.sour_reader.proofs.MentionLaws.{with_names_length, with_lines_append, with_lines_length}
@@ -64,10 +64,14 @@ no_instr : (instr : RawInstr) (word : List ℕ) (tokens : List (List ℕ)) → (
 no_instr (Var x e) word tokens is known (value, whole, name, spelled) = other_word (codes "var") is (first_is _ _ _ _ whole) refl refl
 no_instr (Drop x) word tokens is known (whole, name) = other_word (codes "drop") is (first_is _ _ _ _ whole) refl refl
 no_instr (Assign x e) word tokens is known (value, whole, name, spelled) = no_reserved x word (sym (first_is _ _ _ _ whole)) known name
+no_instr (ArrayLength x e) word tokens is known (count, whole, name, spelled) = other_word (codes "array") is (first_is _ _ _ _ whole) refl refl
+no_instr (ArrayList x es) word tokens is known (cells, whole, name, spelled) = other_word (codes "array") is (first_is _ _ _ _ whole) refl refl
+no_instr (Store x index e) word tokens is known (place, value, whole, name, first, second) = no_reserved x word (sym (first_is _ _ _ _ whole)) known name
 no_instr (Print e) word tokens is known (value, whole, spelled) = other_word (codes "print") is (first_is _ _ _ _ whole) refl refl
 no_instr (Read x) word tokens is known (whole, name) = other_word (codes "read") is (first_is _ _ _ _ whole) refl refl
 no_instr (Branch e a b) word tokens is known (value, whole, spelled, first, second) = other_word (codes "branch") is (first_is _ _ _ _ whole) refl refl
 no_instr (Goto a) word tokens is known (whole, name) = other_word (codes "goto") is (first_is _ _ _ _ whole) refl refl
+no_instr (Call x callee es) word tokens is known (function, arguments, whole, name, first, second) = other_word (codes "call") is (first_is _ _ _ _ whole) refl refl
 no_instr (Return e) word tokens is known (value, whole, spelled) = other_word (codes "return") is (first_is _ _ _ _ whole) refl refl
 no_instr Stop word tokens is known whole = other_word (codes "stop") is (first_is _ _ _ _ whole) refl refl
 
@@ -81,15 +85,15 @@ no_labelled None instr (word ∷ tokens) is spelled = no_instr instr word tokens
 no_labelled (Some label) instr (word ∷ tokens) is (rest, whole, name, spelled) = no_reserved label word (sym (first_is _ _ _ _ whole)) (both_reserved word is) name
 
 -- no line of a version does
-pub no_line_at_end : (line : RawLine) (lines after : Lines) → EndVersion lines → OneLine SpellsLine line lines after → ⊥
-no_line_at_end line [] after ended (tokens, is, spelled) = ended
-no_line_at_end line (first ∷ lines) after ended (tokens, is, spelled) =
+pub no_line_at_end : (line : RawLine) (lines after : Lines) → EndVersion lines → OneLine IsLine line lines after → ⊥
+no_line_at_end line [] after ended (tokens, is, (spelled, few)) = ended
+no_line_at_end line (first ∷ lines) after ended (tokens, is, (spelled, few)) =
     let same : first ≡ tokens = cc in
     no_labelled line.label line.instr tokens (subst BeginsVersionOrEnd same ended) spelled
 
 -- the lines of a version that were read so far, and the variables
 pub record BodySoFar (parameters : List (List ℕ)) (start now : AheadView) (front : List RawLine) (names : List (List ℕ)) : Type 0 where
-  pub read : ReadSoFar RawLine (OneLine SpellsLine) EndVersion start now front
+  pub read : ReadSoFar RawLine (OneLine IsLine) EndVersion start now front
   pub names_are : names ≡ with_lines (with_names [] parameters) front
   pub limit : length front ≤ 4096
   pub few : length names ≤ 1024
@@ -97,26 +101,26 @@ pub record BodySoFar (parameters : List (List ℕ)) (start now : AheadView) (fro
 -- at first
 pub body_none : (parameters : List (List ℕ)) (start : AheadView) (front : List RawLine) (names : List (List ℕ)) → front ≡ [] → names ≡ with_names [] parameters → length parameters ≤ 1024 → BodySoFar parameters start start front names
 body_none parameters start front names none are few = record {
-  read = subst (ReadSoFar RawLine (OneLine SpellsLine) EndVersion start start) (sym none) (so_far_none (OneLine SpellsLine) EndVersion start);
+  read = subst (ReadSoFar RawLine (OneLine IsLine) EndVersion start start) (sym none) (so_far_none (OneLine IsLine) EndVersion start);
   names_are = are ∙ ap (with_lines (with_names [] parameters)) (sym none);
   limit = omega (arith, ap length none);
   few = let all = with_names_length [] parameters in omega (arith, ap length are, all.1);
 }
 
 -- one line more
-pub body_more : (parameters : List (List ℕ)) (start old new : AheadView) (front : List RawLine) (names more : List (List ℕ)) (line : RawLine) → BodySoFar parameters start old front names → length front < 4096 → (BeginsVersionOrEnd old.next → ⊥) → ((other : RawLine) → SpellsLine other old.next ↔ (other ≡ line)) → Passes old new → more ≡ with_names names (instr_names line.instr) → length more ≤ 1024 → BodySoFar parameters start new (front ++ line ∷ []) more
+pub body_more : (parameters : List (List ℕ)) (start old new : AheadView) (front : List RawLine) (names more : List (List ℕ)) (line : RawLine) → BodySoFar parameters start old front names → length front < 4096 → (BeginsVersionOrEnd old.next → ⊥) → ((other : RawLine) → IsLine other old.next ↔ (other ≡ line)) → Passes old new → more ≡ with_names names (instr_names line.instr) → length more ≤ 1024 → BodySoFar parameters start new (front ++ line ∷ []) more
 body_more parameters start old new front names more line so_far short goes_on spells passes are few = record {
-  read = so_far_more (OneLine SpellsLine) EndVersion start old new front line so_far.read (next_goes_on BeginsVersionOrEnd old goes_on) (line_reads SpellsLine old new line spells passes);
+  read = so_far_more (OneLine IsLine) EndVersion start old new front line so_far.read (next_goes_on BeginsVersionOrEnd old goes_on) (line_reads IsLine old new line spells passes);
   names_are = are ∙ ap (λ it. with_names it (instr_names line.instr)) so_far.names_are ∙ sym (with_lines_append (with_names [] parameters) front (line ∷ []));
   limit = omega (arith, length-append front (line ∷ []));
   few = few;
 }
 
 -- too many variables
-pub body_many_names : (parameters : List (List ℕ)) (start old new : AheadView) (front : List RawLine) (names more : List (List ℕ)) (line : RawLine) → BodySoFar parameters start old front names → (BeginsVersionOrEnd old.next → ⊥) → ((other : RawLine) → SpellsLine other old.next ↔ (other ≡ line)) → Passes old new → more ≡ with_names names (instr_names line.instr) → 1024 < length more → ReadsAsNone (HasBody parameters) start
+pub body_many_names : (parameters : List (List ℕ)) (start old new : AheadView) (front : List RawLine) (names more : List (List ℕ)) (line : RawLine) → BodySoFar parameters start old front names → (BeginsVersionOrEnd old.next → ⊥) → ((other : RawLine) → IsLine other old.next ↔ (other ≡ line)) → Passes old new → more ≡ with_names names (instr_names line.instr) → 1024 < length more → ReadsAsNone (HasBody parameters) start
 body_many_names parameters start old new front names more line so_far goes_on spells passes are many body lines after left (each, short) =
-    let read = so_far_more (OneLine SpellsLine) EndVersion start old new front line so_far.read (next_goes_on BeginsVersionOrEnd old goes_on) (line_reads SpellsLine old new line spells passes) in
-    let others = so_far_front (OneLine SpellsLine) EndVersion start new (front ++ line ∷ []) read body lines after left each in
+    let read = so_far_more (OneLine IsLine) EndVersion start old new front line so_far.read (next_goes_on BeginsVersionOrEnd old goes_on) (line_reads IsLine old new line spells passes) in
+    let others = so_far_front (OneLine IsLine) EndVersion start new (front ++ line ∷ []) read body lines after left each in
     let all : with_lines (with_names [] parameters) body ≡ with_lines (with_lines (with_names [] parameters) (front ++ line ∷ [])) others.0 =
     ap (with_lines (with_names [] parameters)) others.1 ∙ with_lines_append (with_names [] parameters) (front ++ line ∷ []) others.0 in
     let here : more ≡ with_lines (with_names [] parameters) (front ++ line ∷ []) =
@@ -127,19 +131,19 @@ body_many_names parameters start old new front names more line so_far goes_on sp
 -- too many lines
 pub body_many_lines : (parameters : List (List ℕ)) (start now : AheadView) (front : List RawLine) (names : List (List ℕ)) → BodySoFar parameters start now front names → (BeginsVersionOrEnd now.next → ⊥) → 4096 ≤ length front → ReadsAsNone (HasBody parameters) start
 body_many_lines parameters start now front names so_far goes_on many body lines after left (each, short) =
-    let longer = so_far_longer (OneLine SpellsLine) EndVersion start now front so_far.read (next_goes_on BeginsVersionOrEnd now goes_on) body lines after left each in
+    let longer = so_far_longer (OneLine IsLine) EndVersion start now front so_far.read (next_goes_on BeginsVersionOrEnd now goes_on) body lines after left each in
     omega (arith, short.0)
 
 -- no line where one should come
-pub body_no_line : (parameters : List (List ℕ)) (start now : AheadView) (front : List RawLine) (names : List (List ℕ)) → BodySoFar parameters start now front names → (BeginsVersionOrEnd now.next → ⊥) → ReadsAsNone (OneLine SpellsLine) now → ReadsAsNone (HasBody parameters) start
+pub body_no_line : (parameters : List (List ℕ)) (start now : AheadView) (front : List RawLine) (names : List (List ℕ)) → BodySoFar parameters start now front names → (BeginsVersionOrEnd now.next → ⊥) → ReadsAsNone (OneLine IsLine) now → ReadsAsNone (HasBody parameters) start
 body_no_line parameters start now front names so_far goes_on none body lines after left (each, short) =
-    so_far_nowhere (OneLine SpellsLine) EndVersion start now front so_far.read (next_goes_on BeginsVersionOrEnd now goes_on) none body lines after left each
+    so_far_nowhere (OneLine IsLine) EndVersion start now front so_far.read (next_goes_on BeginsVersionOrEnd now goes_on) none body lines after left each
 
 -- all lines
 pub whole_body : (parameters : List (List ℕ)) (start now : AheadView) (front : List RawLine) (names : List (List ℕ)) → BodySoFar parameters start now front names → BeginsVersionOrEnd now.next → ReadsAs (HasBody parameters) start now front
 whole_body parameters start now front names so_far ended =
-    reads_with (EachUpTo (OneLine SpellsLine) EndVersion) (AreShort parameters) start now front
-    (so_far_end (OneLine SpellsLine) EndVersion start now front so_far.read (next_ends BeginsVersionOrEnd now ended (λ it. it)) no_line_at_end)
+    reads_with (EachUpTo (OneLine IsLine) EndVersion) (AreShort parameters) start now front
+    (so_far_end (OneLine IsLine) EndVersion start now front so_far.read (next_ends BeginsVersionOrEnd now ended (λ it. it)) no_line_at_end)
     (so_far.limit, subst (λ it. length it ≤ 1024) so_far.names_are so_far.few)
 
 -- too many of them

@@ -66,3 +66,21 @@ pub mapped : {A B : Type 0} (made : A → B) (o : Option A) (r : Option B) → M
 mapped made None r is = is
 mapped made (Some x) None is = absurd is
 mapped made (Some x) (Some y) is = ap Some is
+
+-- T says of what is made of three things what P, Q and R say of these
+pub record MadeOfThree (A B C X : Type 0) (made : A → B → C → X) (P : A → Type 0) (Q : B → Type 0) (R : C → Type 0) (T : X → Type 0) : Type 0 where
+  pub to : (x : X) → T x → (a : A) × (b : B) × (c : C) × (x ≡ made a b c) × P a × Q b × R c
+  pub from : (a : A) (b : B) (c : C) → P a → Q b → R c → T (made a b c)
+
+-- what is made of three things that are found
+pub three_found : {A B C X : Type 0} {made : A → B → C → X} {P : A → Type 0} {Q : B → Type 0} {R : C → Type 0} {T : X → Type 0} (a : A) (b : B) (found : Option C) → MadeOfThree A B C X made P Q R T
+    → Finds P (Some a) → Finds Q (Some b) → Finds R found → Finds T (option_map (made a b) found)
+three_found {A} {B} {C} {X} {made} {P} {Q} {R} {T} a b found is first second third = finds_made R T (made a b) found third (λ x. (to x, from x))
+  where
+    to : (x : X) → T x → (c : C) × (x ≡ made a b c) × R c
+    to x t =
+        let parts = is.to x t in
+        (parts.2, parts.3 ∙ ap (λ it. made it parts.1 parts.2) (found_only P a parts.0 first parts.4) ∙ ap (λ it. made a it parts.2) (found_only Q b parts.1 second parts.5), parts.6)
+
+    from : (x : X) → (c : C) × (x ≡ made a b c) × R c → T x
+    from x (c, same, r) = subst T (sym same) (is.from a b c (found_holds P a first) (found_holds Q b second) r)

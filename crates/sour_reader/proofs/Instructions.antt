@@ -6,17 +6,21 @@ use Rattle.std.specs.Str.{bytes_eq}
 use Rattle.std.proofs.lemmas.List.{map-append}
 use Rattle.sour_reader.specs.declared.raw.RawExpr.{RawExpr}
 use Rattle.sour_reader.specs.declared.raw.RawInstr.{RawInstr}
-use Rattle.sour_reader.specs.declared.raw.RawInstr.TheVariants.{Var, Drop, Assign, Print, Read, Branch, Goto, Return, Stop}
+use Rattle.sour_reader.specs.declared.raw.RawInstr.TheVariants.{Var, Drop, Assign, ArrayLength, ArrayList, Store, Print, Read, Branch, Goto, Call, Return, Stop}
 use Rattle.sour_reader.specs.Name.{IsName, is_reserved}
 use Rattle.sour_reader.specs.Instruction.{SpellsExpr, IsLabel, SpellsInstr}
 use Rattle.sour_reader.specs.Parts.{SpellsSetting, BeginsNone}
 use Rattle.sour_reader.proofs.Operands.{apart, no_reserved}
-use Rattle.sour_reader.proofs.Expressions.{same_parts}
+use Rattle.sour_reader.proofs.Lists.{same_parts}
 use Rattle.sour_reader.proofs.Found.{Finds, finds_none, finds_some, finds_made, none_found, found_holds, found_only}
 
 -- lists that are the same begin with the same
 pub first_same : {a b : List ℕ} {others more : List (List ℕ)} → a ∷ others ≡ b ∷ more → a ≡ b
 first_same is = cc
+
+-- and go on with the same
+pub behind_first : {a b : List ℕ} {others more : List (List ℕ)} → a ∷ others ≡ b ∷ more → others ≡ more
+behind_first is = cc
 
 -- lists that begin with different words are different
 pub differs : {a b : List ℕ} {others more : List (List ℕ)} → a ∷ others ≡ b ∷ more → bytes_eq a b ≡ false → ⊥
@@ -52,10 +56,14 @@ declaration tokens found finds =
     to (Var x e) (value, is, named, spelled) = let rest : tokens ≡ x ∷ codes "=" ∷ value = cc in ((x, e), refl, (value, rest, named, spelled))
     to (Drop x) (is, named) = absurd (differs is refl)
     to (Assign x e) (value, is, named, spelled) = absurd (reserved is refl named)
+    to (ArrayLength x e) (count, is, named, spelled) = absurd (differs is refl)
+    to (ArrayList x es) (cells, is, named, spelled) = absurd (differs is refl)
+    to (Store x index e) (place, value, is, named, first, second) = absurd (reserved is refl named)
     to (Print e) (value, is, spelled) = absurd (differs is refl)
     to (Read x) (is, named) = absurd (differs is refl)
     to (Branch e a b) (value, is, spelled, first, second) = absurd (differs is refl)
     to (Goto a) (is, label) = absurd (differs is refl)
+    to (Call x callee es) (function, arguments, is, named, first, second) = absurd (differs is refl)
     to (Return e) (value, is, spelled) = absurd (differs is refl)
     to Stop is = absurd (differs is refl)
 
@@ -64,19 +72,23 @@ declaration tokens found finds =
         subst (λ i. SpellsInstr i (codes "var" ∷ tokens)) (sym is) (value, ap (λ ts. codes "var" ∷ ts) rest, named, spelled)
 
 -- an assignment
-pub assignment : (name : List ℕ) (tokens : List (List ℕ)) (found : Option (List ℕ × RawExpr)) → BeginsNone name → Finds (λ (it : List ℕ × RawExpr). SpellsSetting (codes "<-") it.0 it.1 (name ∷ tokens)) found
+pub assignment : (name : List ℕ) (tokens : List (List ℕ)) (found : Option (List ℕ × RawExpr)) → BeginsNone name → ((rest : List (List ℕ)) → tokens ≡ codes "[" ∷ rest → ⊥) → Finds (λ (it : List ℕ × RawExpr). SpellsSetting (codes "<-") it.0 it.1 (name ∷ tokens)) found
     → Finds (λ instr. SpellsInstr instr (name ∷ tokens)) (option_map (λ p. Assign p.0 p.1) found)
-assignment name tokens found begins finds =
+assignment name tokens found begins closed finds =
     finds_made (λ (it : List ℕ × RawExpr). SpellsSetting (codes "<-") it.0 it.1 (name ∷ tokens)) (λ instr. SpellsInstr instr (name ∷ tokens)) (λ p. Assign p.0 p.1) found finds (λ instr. (to instr, from instr))
   where
     to : (instr : RawInstr) → SpellsInstr instr (name ∷ tokens) → (it : List ℕ × RawExpr) × (instr ≡ Assign it.0 it.1) × (SpellsSetting (codes "<-") it.0 it.1 (name ∷ tokens))
     to (Var x e) (value, is, named, spelled) = let same : name ≡ codes "var" = cc in absurd (begins.var same)
     to (Drop x) (is, named) = let same : name ≡ codes "drop" = cc in absurd (begins.drop same)
     to (Assign x e) (value, is, named, spelled) = ((x, e), refl, (value, is, named, spelled))
+    to (ArrayLength x e) (count, is, named, spelled) = let same : name ≡ codes "array" = cc in absurd (begins.array same)
+    to (ArrayList x es) (cells, is, named, spelled) = let same : name ≡ codes "array" = cc in absurd (begins.array same)
+    to (Store x index e) (place, value, is, named, first, second) = absurd (closed (place ++ codes "]" ∷ codes "<-" ∷ value) (behind_first is))
     to (Print e) (value, is, spelled) = let same : name ≡ codes "print" = cc in absurd (begins.print same)
     to (Read x) (is, named) = let same : name ≡ codes "read" = cc in absurd (begins.read same)
     to (Branch e a b) (value, is, spelled, first, second) = let same : name ≡ codes "branch" = cc in absurd (begins.branch same)
     to (Goto a) (is, label) = let same : name ≡ codes "goto" = cc in absurd (begins.goto same)
+    to (Call x callee es) (function, arguments, is, named, first, second) = let same : name ≡ codes "call" = cc in absurd (begins.call same)
     to (Return e) (value, is, spelled) = let same : name ≡ codes "return" = cc in absurd (begins.return same)
     to Stop is = let same : name ≡ codes "stop" = cc in absurd (begins.stop same)
 
@@ -92,10 +104,14 @@ dropping tokens found finds =
     to (Var x e) (value, is, named, spelled) = absurd (differs is refl)
     to (Drop x) (is, named) = let rest : tokens ≡ x ∷ [] = cc in (x, refl, (rest, named))
     to (Assign x e) (value, is, named, spelled) = absurd (reserved is refl named)
+    to (ArrayLength x e) (count, is, named, spelled) = absurd (differs is refl)
+    to (ArrayList x es) (cells, is, named, spelled) = absurd (differs is refl)
+    to (Store x index e) (place, value, is, named, first, second) = absurd (reserved is refl named)
     to (Print e) (value, is, spelled) = absurd (differs is refl)
     to (Read x) (is, named) = absurd (differs is refl)
     to (Branch e a b) (value, is, spelled, first, second) = absurd (differs is refl)
     to (Goto a) (is, label) = absurd (differs is refl)
+    to (Call x callee es) (function, arguments, is, named, first, second) = absurd (differs is refl)
     to (Return e) (value, is, spelled) = absurd (differs is refl)
     to Stop is = absurd (differs is refl)
 
@@ -111,10 +127,14 @@ reading tokens found finds =
     to (Var x e) (value, is, named, spelled) = absurd (differs is refl)
     to (Drop x) (is, named) = absurd (differs is refl)
     to (Assign x e) (value, is, named, spelled) = absurd (reserved is refl named)
+    to (ArrayLength x e) (count, is, named, spelled) = absurd (differs is refl)
+    to (ArrayList x es) (cells, is, named, spelled) = absurd (differs is refl)
+    to (Store x index e) (place, value, is, named, first, second) = absurd (reserved is refl named)
     to (Print e) (value, is, spelled) = absurd (differs is refl)
     to (Read x) (is, named) = let rest : tokens ≡ x ∷ [] = cc in (x, refl, (rest, named))
     to (Branch e a b) (value, is, spelled, first, second) = absurd (differs is refl)
     to (Goto a) (is, label) = absurd (differs is refl)
+    to (Call x callee es) (function, arguments, is, named, first, second) = absurd (differs is refl)
     to (Return e) (value, is, spelled) = absurd (differs is refl)
     to Stop is = absurd (differs is refl)
 
@@ -130,10 +150,14 @@ going tokens found finds =
     to (Var x e) (value, is, named, spelled) = absurd (differs is refl)
     to (Drop x) (is, named) = absurd (differs is refl)
     to (Assign x e) (value, is, named, spelled) = absurd (reserved is refl named)
+    to (ArrayLength x e) (count, is, named, spelled) = absurd (differs is refl)
+    to (ArrayList x es) (cells, is, named, spelled) = absurd (differs is refl)
+    to (Store x index e) (place, value, is, named, first, second) = absurd (reserved is refl named)
     to (Print e) (value, is, spelled) = absurd (differs is refl)
     to (Read x) (is, named) = absurd (differs is refl)
     to (Branch e a b) (value, is, spelled, first, second) = absurd (differs is refl)
     to (Goto a) (is, label) = let rest : tokens ≡ a ∷ [] = cc in (a, refl, (rest, label))
+    to (Call x callee es) (function, arguments, is, named, first, second) = absurd (differs is refl)
     to (Return e) (value, is, spelled) = absurd (differs is refl)
     to Stop is = absurd (differs is refl)
 
@@ -160,10 +184,14 @@ branches tokens = to
     to (Var x e) (value, is, named, spelled) = absurd (differs is refl)
     to (Drop x) (is, named) = absurd (differs is refl)
     to (Assign x e) (value, is, named, spelled) = absurd (reserved is refl named)
+    to (ArrayLength x e) (count, is, named, spelled) = absurd (differs is refl)
+    to (ArrayList x es) (cells, is, named, spelled) = absurd (differs is refl)
+    to (Store x index e) (place, value, is, named, first, second) = absurd (reserved is refl named)
     to (Print e) (value, is, spelled) = absurd (differs is refl)
     to (Read x) (is, named) = absurd (differs is refl)
     to (Branch e a b) (value, is, spelled, first, second) = let rest : tokens ≡ value ++ a ∷ b ∷ [] = cc in record { condition = e; then_label = a; else_label = b; value = value; is = refl; whole = rest; spelled = spelled; first = first; second = second }
     to (Goto a) (is, label) = absurd (differs is refl)
+    to (Call x callee es) (function, arguments, is, named, first, second) = absurd (differs is refl)
     to (Return e) (value, is, spelled) = absurd (differs is refl)
     to Stop is = absurd (differs is refl)
 

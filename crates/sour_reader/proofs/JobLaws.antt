@@ -8,34 +8,33 @@ use Rattle.sour_reader.specs.declared.raw.RawVersion.{RawVersion}
 use Rattle.sour_reader.specs.declared.raw.RawFunction.{RawFunction}
 use Rattle.sour_reader.specs.declared.raw.RawInput.{RawInput}
 use Rattle.sour_reader.specs.declared.raw.RawJob.{RawJob}
-use Rattle.sour_reader.specs.Instruction.{SpellsLine}
 use Rattle.sour_reader.specs.Inputs.{SpellsEachInput, SpellsInputs}
-use Rattle.sour_reader.specs.Limits.{IsShortVersion, IsShortFunction, IsShortInput, IsShort}
+use Rattle.sour_reader.specs.Limits.{HasShortInstrs, IsShortVersion, IsShortFunction, IsShortInput, IsShort}
 use Rattle.sour_reader.specs.Job.{SpellsLines, SpellsVersion, SpellsVersions, SpellsFunction, SpellsFunctions, SpellsJob, Reads, parameters_spelling, version_heading, function_heading, function_end}
 use Rattle.sour_reader.specs.Ahead.{AheadView, AreLeft, ReadsAs, ReadsAsNone, OneLine, EachUpTo}
-use Rattle.sour_reader.specs.Front.{BeginsVersionOrEnd, EndVersion, HasVersion, EndFunction, HasFunction, EndFunctions, HasFunctions, IsInput, EndText, HasInputs, HasJob}
+use Rattle.sour_reader.specs.Front.{IsLine, BeginsVersionOrEnd, EndVersion, HasVersion, EndFunction, HasFunction, EndFunctions, HasFunctions, IsInput, EndText, HasInputs, HasJob}
 use Rattle.sour_reader.proofs.Readings.{left_at_end, reads_both, reads_none_first, reads_none_second}
 
 abbrev Lines : Type 0
 Lines = List (List (List ℕ))
 
-body_from : (body : List RawLine) (front after : Lines) → SpellsLines body front → EndVersion after → EachUpTo (OneLine SpellsLine) EndVersion body (front ++ after) after
-body_from [] [] after spelled ended = (refl, ended)
-body_from [] (tokens ∷ front) after spelled ended = absurd spelled
-body_from (line ∷ body) [] after spelled ended = absurd spelled
-body_from (line ∷ body) (tokens ∷ front) after (one, more) ended = (front ++ after, (tokens, refl, one), body_from body front after more ended)
+body_from : (body : List RawLine) (front after : Lines) → SpellsLines body front → HasShortInstrs body → EndVersion after → EachUpTo (OneLine IsLine) EndVersion body (front ++ after) after
+body_from [] [] after spelled short ended = (refl, ended)
+body_from [] (tokens ∷ front) after spelled short ended = absurd spelled
+body_from (line ∷ body) [] after spelled short ended = absurd spelled
+body_from (line ∷ body) (tokens ∷ front) after (one, more) short ended = (front ++ after, (tokens, refl, (one, short.0)), body_from body front after more short.1 ended)
 
-body_to : (body : List RawLine) (lines after : Lines) → EachUpTo (OneLine SpellsLine) EndVersion body lines after → (front : Lines) × (lines ≡ front ++ after) × SpellsLines body front × EndVersion after
-body_to [] lines after (is, ended) = ([], is, tt, subst EndVersion is ended)
-body_to (line ∷ body) lines after (rest, (tokens, is, one), more) =
+body_to : (body : List RawLine) (lines after : Lines) → EachUpTo (OneLine IsLine) EndVersion body lines after → (front : Lines) × (lines ≡ front ++ after) × SpellsLines body front × HasShortInstrs body × EndVersion after
+body_to [] lines after (is, ended) = ([], is, tt, tt, subst EndVersion is ended)
+body_to (line ∷ body) lines after (rest, (tokens, is, (one, short)), more) =
     let r = body_to body rest after more in
-    (tokens ∷ r.0, is ∙ ap (λ it. tokens ∷ it) r.1, (one, r.2), r.3)
+    (tokens ∷ r.0, is ∙ ap (λ it. tokens ∷ it) r.1, (one, r.2), (short, r.3), r.4)
 
 version_from : (parameters : List (List ℕ)) (version : RawVersion) (front after : Lines) → SpellsVersion version front → IsShortVersion parameters version → EndVersion after → HasVersion parameters version (front ++ after) after
 version_from parameters version front after (lines, is, name, spelled) short ended = (
   lines ++ after,
   (version_heading version.name, ap (λ it. it ++ after) is, (refl, name)),
-  (body_from version.lines lines after spelled ended, (short.lines, short.variables)),
+  (body_from version.lines lines after spelled short.instrs ended, (short.lines, short.variables)),
 )
 
 version_to : (parameters : List (List ℕ)) (version : RawVersion) (lines after : Lines) → HasVersion parameters version lines after → (front : Lines) × (lines ≡ front ++ after) × SpellsVersion version front × IsShortVersion parameters version × EndVersion after
@@ -44,8 +43,8 @@ version_to parameters version lines after (rest, (tokens, is, (heading, name)), 
       version_heading version.name ∷ r.0,
       is ∙ ap (λ it. it ∷ rest) heading ∙ ap (λ it. version_heading version.name ∷ it) r.1,
       (r.0, refl, name, r.2),
-      record { lines = short.0; variables = short.1 },
-      r.3,
+      record { lines = short.0; variables = short.1; instrs = r.3 },
+      r.4,
     )
 
 -- a line that ends a function comes behind the lines of a version

@@ -5,7 +5,7 @@ use Rattle.std.specs.Option.{option_map}
 use Rattle.sour_tokens.specs.Token.{IsWord}
 use Rattle.sour_reader.specs.declared.raw.RawExpr.{RawExpr}
 use Rattle.sour_reader.specs.declared.raw.RawInstr.{RawInstr}
-use Rattle.sour_reader.specs.declared.raw.RawInstr.TheVariants.{Var, Drop, Assign, Print, Read, Branch, Goto, Return, Stop}
+use Rattle.sour_reader.specs.declared.raw.RawInstr.TheVariants.{Var, Drop, Assign, ArrayLength, ArrayList, Store, Print, Read, Branch, Goto, Call, Return, Stop}
 use Rattle.sour_reader.specs.declared.raw.RawLine.{RawLine}
 use Rattle.sour_reader.specs.Name.{IsName}
 use Rattle.sour_reader.specs.Instruction.{SpellsExpr, IsLabel, SpellsInstr, SpellsLabelled, SpellsLine}
@@ -54,10 +54,14 @@ no_colon : (instr : RawInstr) (first : List ℕ) (tokens : List (List ℕ)) → 
 no_colon (Var x e) first tokens (value, is, named, spelled) = no_colon_name x (second_same is) named
 no_colon (Drop x) first tokens (is, named) = no_colon_name x (second_same is) named
 no_colon (Assign x e) first tokens (value, is, named, spelled) = apart (codes "<-") (codes ":") (second_same is) refl
+no_colon (ArrayLength x e) first tokens (count, is, named, spelled) = no_colon_name x (second_same is) named
+no_colon (ArrayList x es) first tokens (cells, is, named, spelled) = no_colon_name x (second_same is) named
+no_colon (Store x index e) first tokens (place, value, is, named, one, two) = apart (codes "[") (codes ":") (second_same is) refl
 no_colon (Print e) first tokens (value, is, spelled) = no_colon_value e value first (codes "print") tokens is spelled
 no_colon (Read x) first tokens (is, named) = no_colon_name x (second_same is) named
 no_colon (Branch e a b) first tokens (value, is, spelled, one, two) = no_colon_condition e value first (codes "branch") a b tokens is spelled
 no_colon (Goto a) first tokens (is, label) = no_colon_label a (second_same is) label
+no_colon (Call x callee es) first tokens (function, arguments, is, named, one, two) = no_colon_name x (second_same is) named
 no_colon (Return e) first tokens (value, is, spelled) = no_colon_value e value first (codes "return") tokens is spelled
 no_colon Stop first tokens is = cc
 

@@ -17,3 +17,5 @@ pub mod Labels
 pub mod Lists
 pub mod Operands
 pub mod Expressions
+pub mod Commas
+pub mod Calls

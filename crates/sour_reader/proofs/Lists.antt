@@ -1,5 +1,5 @@
 -- Short lists.
-use Rattle.std.proofs.Common.{◌≡◌, List, [], ◌∷◌, ◌++◌, length, map, take, drop, get_or, ℕ, sym, ap, ◌∙◌, arith}
+use Rattle.std.proofs.Common.{◌≡◌, List, [], ◌∷◌, ◌++◌, length, map, take, drop, get_or, ℕ, refl, sym, ap, ◌∙◌, arith}
 use Rattle.std.proofs.lemmas.List.{take-append-drop, map-append}
 use Rattle.std.specs.List.{AllByRecursion}
 
@@ -26,3 +26,14 @@ map_parts f xs front back n at_front at_back =
 pub AllByRecursion-parts : {X : Type 0} (P : X → Type 0) (xs : List X) (x : X) → AllByRecursion P (xs ++ x ∷ []) → AllByRecursion P xs × P x
 AllByRecursion-parts P [] x all = (tt, all.0)
 AllByRecursion-parts P (y ∷ xs) x all = let rest = AllByRecursion-parts P xs x all.1 in ((all.0, rest.0), rest.1)
+
+-- two lists that are the same as wholes and have first parts of one length have the same parts
+pub same_parts : {X : Type 0} (xs ys zs ws : List X) → xs ++ ys ≡ zs ++ ws → length xs ≡ length zs → (xs ≡ zs) × (ys ≡ ws)
+same_parts [] ys [] ws is count = (refl, is)
+same_parts [] ys (z ∷ zs) ws is count = absurd (omega arith)
+same_parts (x ∷ xs) ys [] ws is count = absurd (omega arith)
+same_parts (x ∷ xs) ys (z ∷ zs) ws is count =
+    let head : x ≡ z = cc in
+    let tail : xs ++ ys ≡ zs ++ ws = cc in
+    let parts = same_parts xs ys zs ws tail (omega arith) in
+    (ap (λ it. it ∷ xs) head ∙ ap (λ it. z ∷ it) parts.0, parts.1)

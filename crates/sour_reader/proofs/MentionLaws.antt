@@ -1,5 +1,5 @@
 -- How the variables of a version grow, name by name.
-use Rattle.std.proofs.Common.{◌≡◌, ◌≢◌, ℕ, zero, suc, ◌+◌, ◌≤◌, Bool, true, false, ◌||◌, List, [], ◌∷◌, ◌++◌, take, length, length-append, Some, refl, sym, ap, ◌∙◌, inl, inr, get_or, ◌<◌, arith}
+use Rattle.std.proofs.Common.{◌≡◌, ◌≢◌, ℕ, zero, suc, ◌+◌, ◌*◌, append_assoc, append-nil, ◌≤◌, Bool, true, false, ◌||◌, List, [], ◌∷◌, ◌++◌, take, length, length-append, Some, refl, sym, ap, ◌∙◌, inl, inr, get_or, ◌<◌, arith}
 use Rattle.std.proofs.lemmas.List.{take_more, length-take}
 use Rattle.std.specs.Prelude.{slice_get, cond}
 use Rattle.std.specs.List.{AllByRecursion, list_any}
@@ -7,8 +7,12 @@ use Rattle.std.specs.Str.{bytes_eq}
 use Rattle.std.proofs.lemmas.Slice.Eq.{bytes_eq-Decides}
 use Rattle.sour_syntax.specs.declared.literal.VarId.{VarId}
 use Rattle.sour_syntax.specs.Names.{Numbers}
+use Rattle.sour_reader.specs.declared.raw.RawSimple.{RawSimple}
+use Rattle.sour_reader.specs.declared.raw.RawSimple.TheVariants as simple
+use Rattle.sour_reader.specs.declared.raw.RawExpr.{RawExpr}
+use Rattle.sour_reader.specs.declared.raw.RawExpr.TheVariants.{Plain, Cell, Length, Not, Binary}
 use Rattle.sour_reader.specs.declared.raw.RawLine.{RawLine}
-use Rattle.sour_reader.specs.Mentions.{instr_names, with_name, with_names, with_lines}
+use Rattle.sour_reader.specs.Mentions.{simple_names, expr_names, each_names, instr_names, with_name, with_names, with_lines}
 
 any_first : (test any : Bool) → test ≡ true → (test || any) ≡ true
 any_first test any is = rw is refl
@@ -79,3 +83,48 @@ with_names_more names index name within is =
 -- the first of them are no more than all
 pub few_names : (names : List (List ℕ)) (index : ℕ) → length (with_names [] (take index names)) ≤ length names
 few_names names index = let all = with_names_length [] (take index names) in omega (arith, all.1, length-take index names)
+
+-- an operand has at most one name
+pub simple_names_length : (a : RawSimple) → length (simple_names a) ≤ 1
+simple_names_length (simple.Lit literal) = omega arith
+simple_names_length (simple.Name name) = omega arith
+
+-- an expression has at most two names
+pub expr_names_length : (e : RawExpr) → length (expr_names e) ≤ 2
+expr_names_length (Plain a) = let one = simple_names_length a in omega arith
+expr_names_length (Cell x index) = let one = simple_names_length index in omega arith
+expr_names_length (Length a) = let one = simple_names_length a in omega arith
+expr_names_length (Not a) = let one = simple_names_length a in omega arith
+expr_names_length (Binary op a b) =
+    let one = simple_names_length a in
+    let other = simple_names_length b in
+    omega (arith, length-append (simple_names a) (simple_names b))
+
+-- so have some expressions twice as many as they are
+pub each_names_length : (es : List RawExpr) → length (each_names es) ≤ 2 * length es
+each_names_length [] = omega arith
+each_names_length (e ∷ es) =
+    let one = expr_names_length e in
+    let others = each_names_length es in
+    omega (arith, length-append (expr_names e) (each_names es))
+
+each_names_append : (first second : List RawExpr) → each_names (first ++ second) ≡ each_names first ++ each_names second
+each_names_append [] second = refl
+each_names_append (e ∷ first) second = ap (λ it. expr_names e ++ it) (each_names_append first second) ∙ sym (append_assoc (expr_names e) (each_names first) (each_names second))
+
+-- one expression more
+pub each_names_more : (names : List (List ℕ)) (es : List RawExpr) (index : ℕ) (e : RawExpr) → index < length es → e ≡ get_or es index e
+    → with_names names (each_names (take (index + 1) es)) ≡ with_names (with_names names (each_names (take index es))) (expr_names e)
+each_names_more names es index e within is =
+    ap (λ it. with_names names (each_names it)) (take_more es index e within)
+    ∙ ap (with_names names) (each_names_append (take index es) (get_or es index e ∷ []))
+    ∙ with_names_append names (each_names (take index es)) (expr_names (get_or es index e) ++ [])
+    ∙ ap (λ it. with_names (with_names names (each_names (take index es))) it) (append-nil (expr_names (get_or es index e)))
+    ∙ ap (λ it. with_names (with_names names (each_names (take index es))) (expr_names it)) (sym is)
+
+-- the names of the first of them are no more than those of all
+pub few_each_names : (names : List (List ℕ)) (es : List RawExpr) (index : ℕ) → index < length es → length (with_names names (each_names (take index es))) ≤ length names + 2 * index
+few_each_names names es index within =
+    let all = with_names_length names (each_names (take index es)) in
+    let each = each_names_length (take index es) in
+    omega (arith, all.1, each, length-take index es)

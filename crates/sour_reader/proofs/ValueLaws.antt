@@ -10,7 +10,7 @@ use Rattle.sour_reader.specs.Inputs.{SpellsValues}
 use Rattle.sour_reader.specs.Operand.{operand_length}
 use Rattle.sour_reader.specs.Front.{IsInput}
 use Rattle.sour_reader.proofs.Operands.{literal_length}
-use Rattle.sour_reader.proofs.Expressions.{same_parts}
+use Rattle.sour_reader.proofs.Lists.{same_parts}
 use Rattle.sour_reader.proofs.Prefixes.{ReadsOn, reads_on_none, reads_on_more}
 
 -- the literal that the tokens are, or none
@@ -202,7 +202,8 @@ kinds_left P zero xs all = all
 kinds_left P (suc place) [] all = tt
 kinds_left P (suc place) (x ∷ xs) all = kinds_left P place xs all.1
 
-take_all : {X : Type 0} (n : ℕ) (xs : List X) → length xs ≤ n → take n xs ≡ xs
+-- the first of a list, where these are all
+pub take_all : {X : Type 0} (n : ℕ) (xs : List X) → length xs ≤ n → take n xs ≡ xs
 take_all zero [] within = refl
 take_all zero (x ∷ xs) within = absurd (omega arith)
 take_all (suc n) [] within = refl

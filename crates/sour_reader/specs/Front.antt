@@ -11,7 +11,7 @@ use Rattle.sour_reader.specs.Name.{IsName}
 use Rattle.sour_reader.specs.Mentions.{variables_of}
 use Rattle.sour_reader.specs.Instruction.{SpellsLine}
 use Rattle.sour_reader.specs.Inputs.{SpellsInput, inputs_heading}
-use Rattle.sour_reader.specs.Limits.{IsShortInput}
+use Rattle.sour_reader.specs.Limits.{IsShortInstr, IsShortInput}
 use Rattle.sour_reader.specs.Job.{version_heading, parameters_spelling, function_end}
 use Rattle.sour_reader.specs.Ahead.{OneLine, EachUpTo}
 
@@ -29,13 +29,17 @@ NextIs B (tokens ∷ lines) = B tokens
 abbrev pub EndVersion : List (List (List ℕ)) → Type 0
 EndVersion lines = NextIs BeginsVersionOrEnd lines
 
+-- the tokens are this line, of not too many elements and arguments
+abbrev pub IsLine : RawLine → List (List ℕ) → Type 0
+IsLine line tokens = SpellsLine line tokens × IsShortInstr line.instr
+
 -- not too many lines and variables
 abbrev pub AreShort : List (List ℕ) → List RawLine → Type 0
 AreShort parameters body = (length body ≤ 4096) × (length (variables_of parameters body) ≤ 1024)
 
 -- the lines of a version with these parameters
 abbrev pub HasBody : List (List ℕ) → List RawLine → List (List (List ℕ)) → List (List (List ℕ)) → Type 0
-HasBody parameters body lines after = EachUpTo (OneLine SpellsLine) EndVersion body lines after × AreShort parameters body
+HasBody parameters body lines after = EachUpTo (OneLine IsLine) EndVersion body lines after × AreShort parameters body
 
 -- the line is the heading of a version of this name
 abbrev pub IsVersionHeading : List ℕ → List (List ℕ) → Type 0

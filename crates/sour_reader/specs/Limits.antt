@@ -1,16 +1,40 @@
 -- How much a text may hold.
-use Rattle.std.specs.Prelude.{◌≤◌, ℕ, List, length}
+use Rattle.std.specs.Prelude.{◌≤◌, ℕ, List, length, ⊤}
 use Rattle.std.specs.List.{AllByRecursion}
+use Rattle.sour_reader.specs.declared.raw.RawInstr.{RawInstr}
+use Rattle.sour_reader.specs.declared.raw.RawInstr.TheVariants.{Var, Drop, Assign, ArrayLength, ArrayList, Store, Print, Read, Branch, Goto, Call, Return, Stop}
+use Rattle.sour_reader.specs.declared.raw.RawLine.{RawLine}
 use Rattle.sour_reader.specs.declared.raw.RawVersion.{RawVersion}
 use Rattle.sour_reader.specs.declared.raw.RawFunction.{RawFunction}
 use Rattle.sour_reader.specs.declared.raw.RawInput.{RawInput}
 use Rattle.sour_reader.specs.declared.raw.RawJob.{RawJob}
 use Rattle.sour_reader.specs.Mentions.{variables_of}
 
+-- at most 1024 elements of a list and 255 arguments of a call
+abbrev pub IsShortInstr : RawInstr → Type 0
+IsShortInstr (Var x e) = ⊤
+IsShortInstr (Drop x) = ⊤
+IsShortInstr (Assign x e) = ⊤
+IsShortInstr (ArrayLength x e) = ⊤
+IsShortInstr (ArrayList x es) = length es ≤ 1024
+IsShortInstr (Store x index e) = ⊤
+IsShortInstr (Print e) = ⊤
+IsShortInstr (Read x) = ⊤
+IsShortInstr (Branch e a b) = ⊤
+IsShortInstr (Goto a) = ⊤
+IsShortInstr (Call x callee es) = length es ≤ 255
+IsShortInstr (Return e) = ⊤
+IsShortInstr Stop = ⊤
+
+-- the same of each line
+abbrev pub HasShortInstrs : List RawLine → Type 0
+HasShortInstrs lines = AllByRecursion (λ (line : RawLine). IsShortInstr line.instr) lines
+
 -- at most 4096 instructions and 1024 variables
 pub record IsShortVersion (parameters : List (List ℕ)) (version : RawVersion) : Type 0 where
   pub lines : length version.lines ≤ 4096
   pub variables : length (variables_of parameters version.lines) ≤ 1024
+  pub instrs : HasShortInstrs version.lines
 
 -- at most 255 parameters and 16 versions
 pub record IsShortFunction (function : RawFunction) : Type 0 where

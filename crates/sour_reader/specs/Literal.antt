@@ -3,8 +3,9 @@ use Rattle.std.specs.Prelude.{◌≡◌, ℕ, ℤ, pos, neg_ℤ, true, false, Li
 use Rattle.std.specs.Int.{w64}
 use Rattle.std.specs.Str.Parse.{digits_value}
 use Rattle.sour_tokens.specs.Token.{IsDigits}
+use Rattle.sour_reader.specs.Name.{IsName}
 use Rattle.sour_reader.specs.declared.raw.RawLiteral.{RawLiteral}
-use Rattle.sour_reader.specs.declared.raw.RawLiteral.TheVariants.{Number, Truth, Nil}
+use Rattle.sour_reader.specs.declared.raw.RawLiteral.TheVariants.{Number, Truth, Nil, Function}
 
 -- digits, or `-` and digits, whose number fits 64 bits
 abbrev pub SpellsNumber : ℤ → List (List ℕ) → Type 0
@@ -20,3 +21,4 @@ SpellsLiteral (Number n) tokens = SpellsNumber n tokens
 SpellsLiteral (Truth true) tokens = tokens ≡ codes "true" ∷ []
 SpellsLiteral (Truth false) tokens = tokens ≡ codes "false" ∷ []
 SpellsLiteral Nil tokens = tokens ≡ codes "nil" ∷ []
+SpellsLiteral (Function name) tokens = (tokens ≡ codes "&" ∷ name ∷ []) × IsName name

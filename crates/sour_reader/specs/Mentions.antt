@@ -7,7 +7,7 @@ use Rattle.sour_reader.specs.declared.raw.RawSimple.TheVariants as simple
 use Rattle.sour_reader.specs.declared.raw.RawExpr.{RawExpr}
 use Rattle.sour_reader.specs.declared.raw.RawExpr.TheVariants as expr
 use Rattle.sour_reader.specs.declared.raw.RawInstr.{RawInstr}
-use Rattle.sour_reader.specs.declared.raw.RawInstr.TheVariants.{Var, Drop, Assign, Print, Read, Branch, Goto, Return, Stop}
+use Rattle.sour_reader.specs.declared.raw.RawInstr.TheVariants.{Var, Drop, Assign, ArrayLength, ArrayList, Store, Print, Read, Branch, Goto, Call, Return, Stop}
 use Rattle.sour_reader.specs.declared.raw.RawLine.{RawLine}
 
 -- the names in an operand
@@ -18,18 +18,29 @@ simple_names (simple.Name name) = name ∷ []
 -- the names in an expression, in the order in which they are written
 abbrev pub expr_names : RawExpr → List (List ℕ)
 expr_names (expr.Plain a) = simple_names a
+expr_names (expr.Cell x index) = x ∷ simple_names index
+expr_names (expr.Length a) = simple_names a
 expr_names (expr.Not a) = simple_names a
 expr_names (expr.Binary op a b) = simple_names a ++ simple_names b
+
+-- the names in some expressions, in the order in which they are written
+abbrev pub each_names : List RawExpr → List (List ℕ)
+each_names [] = []
+each_names (e ∷ es) = expr_names e ++ each_names es
 
 -- the names of variables in an instruction, in the order in which they are written
 abbrev pub instr_names : RawInstr → List (List ℕ)
 instr_names (Var x e) = x ∷ expr_names e
 instr_names (Drop x) = x ∷ []
 instr_names (Assign x e) = x ∷ expr_names e
+instr_names (ArrayLength x e) = x ∷ expr_names e
+instr_names (ArrayList x es) = x ∷ each_names es
+instr_names (Store x index e) = x ∷ simple_names index ++ expr_names e
 instr_names (Print e) = expr_names e
 instr_names (Read x) = x ∷ []
 instr_names (Branch e a b) = expr_names e
 instr_names (Goto a) = []
+instr_names (Call x callee es) = x ∷ simple_names callee ++ each_names es
 instr_names (Return e) = expr_names e
 instr_names Stop = []
 

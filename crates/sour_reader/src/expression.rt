@@ -5,10 +5,12 @@ ghost use Rattle.std.specs.List.{AllByRecursion};
 ghost use Rattle.sour_tokens.specs.Token.{spelling, IsOfItsKind};
 ghost use Rattle.sour_reader.specs.declared.raw.RawExpr.{RawExpr};
 ghost use Rattle.sour_reader.specs.Instruction.{SpellsExpr};
-ghost use Rattle.sour_reader.specs.Parts.{SpellsAfter};
+ghost use Rattle.sour_reader.specs.Parts.{SpellsAfter, BeginsOperand};
 
-use crate::kind::is_symbol;
-use crate::operand::{operand_length, simple_of};
+use crate::bracket::{before_last, behind_symbol};
+use crate::kind::{is_symbol, is_word};
+use crate::label::name_of;
+use crate::operand::{simple_of, split_operand};
 use crate::operator::operator_of;
 use crate::raw::{RawExpr, RawSimple};
 use sour_tokens::{Symbol, Token};
@@ -43,6 +45,48 @@ fn negation_of(alloc: Global, tokens: &[Token]) -> Result<Option<RawExpr>, Alloc
     Ok(simple_of(alloc, tokens)?.map(RawExpr::Not))
 }
 
+/// The expression that `length` and these tokens spell.
+fn length_of(alloc: Global, tokens: &[Token]) -> Result<Option<RawExpr>, AllocError>
+    requires { AllByRecursion IsOfItsKind tokens.now }
+    ensures { IfOk result (λ found. (e : RawExpr) → SpellsExpr e (codes "length" ∷ map spelling tokens.now) ↔ (found ≡ Some e)) }
+{
+    Ok(simple_of(alloc, tokens)?.map(RawExpr::Length))
+}
+
+/// The expression that a token, `[` and these tokens spell.
+fn cell_of(alloc: Global, array: &Token, tokens: &[Token]) -> Result<Option<RawExpr>, AllocError>
+    requires kind { IsOfItsKind array.now }
+    requires kinds { AllByRecursion IsOfItsKind tokens.now }
+    ensures { IfOk result (λ found. (e : RawExpr) → SpellsExpr e (spelling array.now ∷ codes "[" ∷ map spelling tokens.now) ↔ (found ≡ Some e)) }
+{
+    let Some(place) = before_last(tokens, Symbol::CloseBracket) else {
+        return Ok(None);
+    };
+    let Some(x) = name_of(alloc, array)? else {
+        return Ok(None);
+    };
+    match simple_of(alloc, place)? {
+        Some(index) => Ok(Some(RawExpr::Cell(x, index))),
+        None => Ok(None),
+    }
+}
+
+/// The expression that these tokens spell, which begins with an operand and goes on with no `[` behind
+/// the first token.
+fn operation_of(alloc: Global, tokens: &[Token]) -> Result<Option<RawExpr>, AllocError>
+    requires kinds { AllByRecursion IsOfItsKind tokens.now }
+    requires begins { BeginsOperand (map spelling tokens.now) }
+    ensures { IfOk result (λ found. (e : RawExpr) → SpellsExpr e (map spelling tokens.now) ↔ (found ≡ Some e)) }
+{
+    let Some((front, behind)) = split_operand(tokens) else {
+        return Ok(None);
+    };
+    match simple_of(alloc, front)? {
+        Some(left) => expression_after(alloc, left, behind),
+        None => Ok(None),
+    }
+}
+
 /// The expression that these tokens spell.
 pub fn expression_of(alloc: Global, tokens: &[Token]) -> Result<Option<RawExpr>, AllocError>
     requires { AllByRecursion IsOfItsKind tokens.now }
@@ -52,15 +96,12 @@ pub fn expression_of(alloc: Global, tokens: &[Token]) -> Result<Option<RawExpr>,
         return Ok(None);
     };
     if is_symbol(first, Symbol::Bang) {
-        return negation_of(alloc, rest);
-    }
-    let count = operand_length(tokens);
-    if tokens.len() < count {
-        return Ok(None);
-    }
-    let (front, behind) = tokens.split_at(count);
-    match simple_of(alloc, front)? {
-        Some(left) => expression_after(alloc, left, behind),
-        None => Ok(None),
+        negation_of(alloc, rest)
+    } else if is_word(first, b"length") {
+        length_of(alloc, rest)
+    } else if let Some(behind) = behind_symbol(rest, Symbol::OpenBracket) {
+        cell_of(alloc, first, behind)
+    } else {
+        operation_of(alloc, tokens)
     }
 }

@@ -9,7 +9,7 @@ use thiserror::Error;
 /// Why a text isn't read.
 #[derive(Clone, Copy, Debug, PartialEq, Eq, Error)]
 pub enum TextFault {
-    /// The bytes aren't of the form that this version reads.
+    /// The bytes aren't of the form that is read.
     #[error("not of the form that is read")]
     Unplaced,
     /// There is no memory for what is read.

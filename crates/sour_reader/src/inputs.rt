@@ -27,21 +27,21 @@ const MAX_INPUTS: usize = 4096;
 const MAX_VALUES: usize = 65536;
 
 /// The value that these tokens begin with, and how many of them spell it.
-fn first_value(tokens: &[Token]) -> Option<(RawLiteral, usize)>
+fn first_value(alloc: Global, tokens: &[Token]) -> Result<Option<(RawLiteral, usize)>, AllocError>
     requires kinds { AllByRecursion IsOfItsKind tokens.now }
     requires some { 0 < length tokens.now }
-    ensures found { IfSome result (λ first. (values : Listed RawLiteral) → SpellsValues values (map spelling tokens.now)
-        ↔ ((others : Listed RawLiteral) × (values ≡ first.0 ∷ others) × SpellsValues others (map spelling (drop first.1 tokens.now)))) }
-    ensures count { IfSome result (λ first. (0 < first.1) × (first.1 ≤ length tokens.now)) }
-    ensures none { IfNone result ((values : Listed RawLiteral) → SpellsValues values (map spelling tokens.now) → ⊥) }
+    ensures found { IfOk result (λ first. IfSome first (λ it. (values : Listed RawLiteral) → SpellsValues values (map spelling tokens.now)
+        ↔ ((others : Listed RawLiteral) × (values ≡ it.0 ∷ others) × SpellsValues others (map spelling (drop it.1 tokens.now))))) }
+    ensures count { IfOk result (λ first. IfSome first (λ it. (0 < it.1) × (it.1 ≤ length tokens.now))) }
+    ensures none { IfOk result (λ first. IfNone first ((values : Listed RawLiteral) → SpellsValues values (map spelling tokens.now) → ⊥)) }
 {
     let count = operand_length(tokens);
     if tokens.len() < count {
-        return None;
+        return Ok(None);
     }
-    match literal_of(&tokens[..count]) {
-        Some(value) => Some((value, count)),
-        None => None,
+    match literal_of(alloc, &tokens[..count])? {
+        Some(value) => Ok(Some((value, count))),
+        None => Ok(None),
     }
 }
 
@@ -57,7 +57,7 @@ fn values_of(alloc: Global, tokens: &[Token]) -> Result<Option<List<RawLiteral>>
         if values.len() >= MAX_VALUES {
             return Ok(None);
         }
-        let Some((value, count)) = first_value(&tokens[place..]) else {
+        let Some((value, count)) = first_value(alloc, &tokens[place..])? else {
             return Ok(None);
         };
         values.push(value)?;

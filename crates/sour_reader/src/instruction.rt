@@ -9,6 +9,9 @@ ghost use Rattle.sour_reader.specs.declared.raw.RawInstr.{RawInstr};
 ghost use Rattle.sour_reader.specs.Instruction.{SpellsInstr};
 ghost use Rattle.sour_reader.specs.Parts.{SpellsSetting, BeginsNone};
 
+use crate::array_instruction::{array_of, store_of};
+use crate::bracket::behind_symbol;
+use crate::call::call_of;
 use crate::expression::expression_of;
 use crate::kind::{is_symbol, is_word};
 use crate::label::{label_of, name_of, only_label, only_name};
@@ -65,7 +68,8 @@ fn drop_of(alloc: Global, tokens: &[Token]) -> Result<Option<RawInstr>, AllocErr
     Ok(only_name(alloc, tokens)?.map(RawInstr::Drop))
 }
 
-/// The assignment that a first token, with which no other instruction begins, and these tokens spell.
+/// The assignment, to a variable or to a cell of an array, that a first token, with which no other
+/// instruction begins, and these tokens spell.
 fn assignment_of(
     alloc: Global,
     name: &Token,
@@ -76,6 +80,9 @@ fn assignment_of(
     requires kinds { AllByRecursion IsOfItsKind behind.now }
     ensures { IfOk result (λ found. (instr : RawInstr) → SpellsInstr instr (spelling name.now ∷ map spelling behind.now) ↔ (found ≡ Some instr)) }
 {
+    if let Some(index) = behind_symbol(behind, Symbol::OpenBracket) {
+        return store_of(alloc, name, index);
+    }
     match setting_of(alloc, name, Symbol::Arrow, behind)? {
         Some((x, e)) => Ok(Some(RawInstr::Assign(x, e))),
         None => Ok(None),
@@ -160,6 +167,8 @@ pub fn instruction_of(alloc: Global, tokens: &[Token]) -> Result<Option<RawInstr
         declaration_of(alloc, rest)
     } else if is_word(first, b"drop") {
         drop_of(alloc, rest)
+    } else if is_word(first, b"array") {
+        array_of(alloc, rest)
     } else if is_word(first, b"print") {
         print_of(alloc, rest)
     } else if is_word(first, b"read") {
@@ -168,6 +177,8 @@ pub fn instruction_of(alloc: Global, tokens: &[Token]) -> Result<Option<RawInstr
         branch_of(alloc, rest)
     } else if is_word(first, b"goto") {
         goto_of(alloc, rest)
+    } else if is_word(first, b"call") {
+        call_of(alloc, rest)
     } else if is_word(first, b"return") {
         return_of(alloc, rest)
     } else if is_word(first, b"stop") {

@@ -6,10 +6,12 @@ ghost use Rattle.sour_tokens.specs.Token.{spelling, IsOfItsKind};
 ghost use Rattle.sour_reader.specs.declared.raw.RawLine.{RawLine};
 ghost use Rattle.sour_reader.specs.Instruction.{SpellsLine};
 ghost use Rattle.sour_reader.specs.Parts.{HasNoColon};
+ghost use Rattle.sour_reader.specs.Front.{IsLine};
 
 use crate::instruction::instruction_of;
 use crate::kind::is_symbol;
 use crate::label::name_of;
+use crate::limits::is_short;
 use crate::raw::RawLine;
 use sour_tokens::{Symbol, Token};
 use std::alloc::{AllocError, Global};
@@ -49,7 +51,7 @@ fn labelled_of(
 }
 
 /// The line that these tokens spell.
-pub(crate) fn line_of(alloc: Global, tokens: &[Token]) -> Result<Option<RawLine>, AllocError>
+fn spelled_line(alloc: Global, tokens: &[Token]) -> Result<Option<RawLine>, AllocError>
     requires { AllByRecursion IsOfItsKind tokens.now }
     ensures { IfOk result (λ found. (line : RawLine) → SpellsLine line (map spelling tokens.now) ↔ (found ≡ Some line)) }
 {
@@ -63,5 +65,18 @@ pub(crate) fn line_of(alloc: Global, tokens: &[Token]) -> Result<Option<RawLine>
         labelled_of(alloc, first, rest)
     } else {
         unlabelled_of(alloc, tokens)
+    }
+}
+
+/// The line that these tokens spell, where it has no more elements and arguments than an instruction may
+/// have.
+pub(crate) fn line_of(alloc: Global, tokens: &[Token]) -> Result<Option<RawLine>, AllocError>
+    requires { AllByRecursion IsOfItsKind tokens.now }
+    ensures { IfOk result (λ found. (line : RawLine) → IsLine line (map spelling tokens.now) ↔ (found ≡ Some line)) }
+{
+    match spelled_line(alloc, tokens)? {
+        Some(line) if is_short(&line.instr) => Ok(Some(line)),
+        Some(_) => Ok(None),
+        None => Ok(None),
     }
 }

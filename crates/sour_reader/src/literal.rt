@@ -1,6 +1,6 @@
 //! Literals.
 
-ghost use Rattle.std.specs.Prelude.{◌≡◌, ◌↔◌, ◌^◌, ◌<◌, ◌∷◌, [], ℤ, pos, neg_ℤ, map, FitsSigned};
+ghost use Rattle.std.specs.Prelude.{◌≡◌, ◌↔◌, ◌^◌, ◌<◌, ◌∷◌, [], ℤ, pos, neg_ℤ, map, codes, FitsSigned, IfOk};
 ghost use Rattle.std.specs.Option.{SomeIff};
 ghost use Rattle.std.specs.Int.{w64};
 ghost use Rattle.std.specs.List.{AllByRecursion};
@@ -10,8 +10,10 @@ ghost use Rattle.sour_reader.specs.declared.raw.RawLiteral.{RawLiteral};
 ghost use Rattle.sour_reader.specs.Literal.{SpellsLiteral};
 
 use crate::kind::is_symbol;
+use crate::label::name_of;
 use crate::raw::RawLiteral;
 use sour_tokens::{Symbol, Token};
+use std::alloc::{AllocError, Global};
 use std::str;
 
 /// The number that digits write; none where it has more than 64 bits.
@@ -70,15 +72,11 @@ fn token_literal(token: &Token) -> Option<RawLiteral>
     }
 }
 
-/// The literal that two tokens spell.
-fn signed_literal(sign: &Token, digits: &Token) -> Option<RawLiteral>
-    requires sign { IsOfItsKind sign.now }
-    requires digits { IsOfItsKind digits.now }
-    ensures { (literal : RawLiteral) → SpellsLiteral literal (spelling sign.now ∷ spelling digits.now ∷ []) ↔ (result ≡ Some literal) }
+/// The number that `-` and a token spell.
+fn negative_literal(digits: &Token) -> Option<RawLiteral>
+    requires { IsOfItsKind digits.now }
+    ensures { (literal : RawLiteral) → SpellsLiteral literal (codes "-" ∷ spelling digits.now ∷ []) ↔ (result ≡ Some literal) }
 {
-    if !is_symbol(sign, Symbol::Minus) {
-        return None;
-    }
     match digits {
         Token::Digits(digits) => negative_of(digits).map(RawLiteral::Number),
         Token::Word(_) => None,
@@ -86,14 +84,43 @@ fn signed_literal(sign: &Token, digits: &Token) -> Option<RawLiteral>
     }
 }
 
-/// The literal that these tokens spell.
-pub fn literal_of(tokens: &[Token]) -> Option<RawLiteral>
-    requires { AllByRecursion IsOfItsKind tokens.now }
-    ensures { (literal : RawLiteral) → SpellsLiteral literal (map spelling tokens.now) ↔ (result ≡ Some literal) }
+/// The function that `&` and a token spell.
+fn function_literal(alloc: Global, name: &Token) -> Result<Option<RawLiteral>, AllocError>
+    requires { IsOfItsKind name.now }
+    ensures { IfOk result (λ found. (literal : RawLiteral) → SpellsLiteral literal (codes "&" ∷ spelling name.now ∷ []) ↔ (found ≡ Some literal)) }
 {
-    match tokens {
-        [only] => token_literal(only),
-        [sign, digits] => signed_literal(sign, digits),
-        _ => None,
+    Ok(name_of(alloc, name)?.map(RawLiteral::Function))
+}
+
+/// The literal that two tokens spell.
+fn paired_literal(
+    alloc: Global,
+    first: &Token,
+    second: &Token,
+) -> Result<Option<RawLiteral>, AllocError>
+    requires first { IsOfItsKind first.now }
+    requires second { IsOfItsKind second.now }
+    ensures { IfOk result (λ found. (literal : RawLiteral) → SpellsLiteral literal (spelling first.now ∷ spelling second.now ∷ []) ↔ (found ≡ Some literal)) }
+{
+    if is_symbol(first, Symbol::Minus) {
+        Ok(negative_literal(second))
+    } else if is_symbol(first, Symbol::Ampersand) {
+        function_literal(alloc, second)
+    } else {
+        Ok(None)
     }
+}
+
+/// The literal that these tokens spell.
+pub fn literal_of(alloc: Global, tokens: &[Token]) -> Result<Option<RawLiteral>, AllocError>
+    requires { AllByRecursion IsOfItsKind tokens.now }
+    ensures { IfOk result (λ found. (literal : RawLiteral) → SpellsLiteral literal (map spelling tokens.now) ↔ (found ≡ Some literal)) }
+{
+    if tokens.len() == 1 {
+        return Ok(token_literal(&tokens[0]));
+    }
+    if tokens.len() != 2 {
+        return Ok(None);
+    }
+    paired_literal(alloc, &tokens[0], &tokens[1])
 }

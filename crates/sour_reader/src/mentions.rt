@@ -1,7 +1,8 @@
 //! The variables that are mentioned, each once.
 
-ghost use Rattle.std.specs.Prelude.{◌≡◌, ◌+◌, ◌<◌, ◌^◌, [], length, IfOk, OnOk};
-ghost use Rattle.sour_reader.specs.Mentions.{simple_names, expr_names, instr_names, with_name, with_names};
+ghost use Rattle.std.specs.Prelude.{◌≡◌, ◌+◌, ◌*◌, ◌<◌, ◌^◌, ◌++◌, [], length, IfOk, OnOk};
+ghost use Rattle.sour_reader.specs.Limits.{IsShortInstr};
+ghost use Rattle.sour_reader.specs.Mentions.{simple_names, expr_names, each_names, instr_names, with_name, with_names};
 
 use crate::raw::{RawExpr, RawInstr, RawSimple};
 use sour_syntax::{Label, List, Names};
@@ -35,6 +36,11 @@ fn add_expr(alloc: Global, value: &RawExpr, names: &mut Names) -> Result<(), All
 {
     match value {
         RawExpr::Plain(operand) => add_simple(alloc, operand, names),
+        RawExpr::Cell(array, index) => {
+            add_name(alloc, array, names)?;
+            add_simple(alloc, index, names)
+        }
+        RawExpr::Length(operand) => add_simple(alloc, operand, names),
         RawExpr::Not(operand) => add_simple(alloc, operand, names),
         RawExpr::Binary(_, left, right) => {
             add_simple(alloc, left, names)?;
@@ -58,23 +64,85 @@ fn add_setting(
     add_expr(alloc, value, names)
 }
 
+/// The same for the names in some expressions.
+fn add_each(alloc: Global, values: &List<RawExpr>, names: &mut Names) -> Result<(), AllocError>
+    requires { length names.old + 2 * length values.now < 2 ^ 32 }
+    ensures { OnOk result (names.new ≡ with_names names.old (each_names values.now)) }
+{
+    for value in values.as_slice() {
+        add_expr(alloc, value, names)?;
+    }
+    Ok(())
+}
+
+/// The same for an array and the names in its elements.
+fn add_array(
+    alloc: Global,
+    name: &Label,
+    elements: &List<RawExpr>,
+    names: &mut Names,
+) -> Result<(), AllocError>
+    requires { length names.old + 1 + 2 * length elements.now < 2 ^ 32 }
+    ensures { OnOk result (names.new ≡ with_names (with_name names.old name.now) (each_names elements.now)) }
+{
+    add_name(alloc, name, names)?;
+    add_each(alloc, elements, names)
+}
+
+/// The same for an array, an index and the names in the value that a cell is given.
+fn add_store(
+    alloc: Global,
+    name: &Label,
+    index: &RawSimple,
+    value: &RawExpr,
+    names: &mut Names,
+) -> Result<(), AllocError>
+    requires { length names.old + 3 < 2 ^ 32 }
+    ensures { OnOk result (names.new ≡ with_names (with_name names.old name.now) (simple_names index.now ++ expr_names value.now)) }
+{
+    add_name(alloc, name, names)?;
+    add_simple(alloc, index, names)?;
+    add_expr(alloc, value, names)
+}
+
+/// The same for the variable that a call sets, and the names in its callee and its arguments.
+fn add_call(
+    alloc: Global,
+    name: &Label,
+    callee: &RawSimple,
+    arguments: &List<RawExpr>,
+    names: &mut Names,
+) -> Result<(), AllocError>
+    requires { length names.old + 2 + 2 * length arguments.now < 2 ^ 32 }
+    ensures { OnOk result (names.new ≡ with_names (with_name names.old name.now) (simple_names callee.now ++ each_names arguments.now)) }
+{
+    add_name(alloc, name, names)?;
+    add_simple(alloc, callee, names)?;
+    add_each(alloc, arguments, names)
+}
+
 /// The same for the names of variables in an instruction.
 pub(crate) fn add_instr(
     alloc: Global,
     instr: &RawInstr,
     names: &mut Names,
 ) -> Result<(), AllocError>
-    requires { length names.old + 2 < 2 ^ 32 }
+    requires short { IsShortInstr instr.now }
+    requires room { length names.old + 2050 < 2 ^ 32 }
     ensures { OnOk result (names.new ≡ with_names names.old (instr_names instr.now)) }
 {
     match instr {
         RawInstr::Var(name, value) => add_setting(alloc, name, value, names),
         RawInstr::Assign(name, value) => add_setting(alloc, name, value, names),
+        RawInstr::ArrayLength(name, count) => add_setting(alloc, name, count, names),
+        RawInstr::ArrayList(name, elements) => add_array(alloc, name, elements, names),
+        RawInstr::Store(name, index, value) => add_store(alloc, name, index, value, names),
         RawInstr::Drop(name) => add_name(alloc, name, names),
         RawInstr::Read(name) => add_name(alloc, name, names),
         RawInstr::Print(value) => add_expr(alloc, value, names),
         RawInstr::Branch(value, _, _) => add_expr(alloc, value, names),
         RawInstr::Return(value) => add_expr(alloc, value, names),
+        RawInstr::Call(name, callee, arguments) => add_call(alloc, name, callee, arguments, names),
         RawInstr::Goto(_) => Ok(()),
         RawInstr::Stop => Ok(()),
     }

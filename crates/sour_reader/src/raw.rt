@@ -8,6 +8,8 @@ pub enum RawLiteral {
     Number(i64),
     Truth(bool),
     Nil,
+    /// A function by its name.
+    Function(Label),
 }
 
 /// An operand as it is written.
@@ -21,6 +23,10 @@ pub enum RawSimple {
 #[derive(Drop)]
 pub enum RawExpr {
     Plain(RawSimple),
+    /// The cell at an index of an array; indexes count from 0.
+    Cell(Label, RawSimple),
+    /// How many cells an array has.
+    Length(RawSimple),
     /// The other truth value.
     Not(RawSimple),
     Binary(Op, RawSimple, RawSimple),
@@ -32,10 +38,14 @@ pub enum RawInstr {
     Var(Label, RawExpr),
     Drop(Label),
     Assign(Label, RawExpr),
+    ArrayLength(Label, RawExpr),
+    ArrayList(Label, List<RawExpr>),
+    Store(Label, RawSimple, RawExpr),
     Print(RawExpr),
     Read(Label),
     Branch(RawExpr, Label, Label),
     Goto(Label),
+    Call(Label, RawSimple, List<RawExpr>),
     Return(RawExpr),
     Stop,
 }

@@ -1,21 +1,24 @@
 -- The function main: there is one at most, and the program that is made has it.
-use Rattle.std.proofs.Common.{◌≡◌, ◌+◌, ℕ, zero, suc, Bool, List, [], ◌∷◌, Some, length, map, eqb, refl, sym, ap, ◌∙◌, subst, arith}
+use Rattle.std.proofs.Common.{◌≡◌, ◌+◌, ◌≤◌, ℕ, zero, suc, Bool, List, [], ◌∷◌, Some, length, map, eqb, refl, sym, ap, ◌∙◌, subst, arith}
 use Rattle.std.specs.Prelude.{◌↔◌, codes}
 use Rattle.std.specs.Bool.{IsTrue}
-use Rattle.std.specs.List.{slice_get}
+use Rattle.std.specs.List.{AllByRecursion, slice_get}
+use Rattle.std.proofs.lemmas.List.{length-map}
 use Rattle.std.proofs.lemmas.Bool.Decides.{Decides-eqb}
 use Rattle.sour_syntax.specs.declared.literal.FunId.{FunId}
 use Rattle.sour_syntax.specs.declared.literal.Literal.{Literal}
 use Rattle.sour_syntax.specs.declared.program.Function.{Function}
+use Rattle.sour_syntax.specs.Literals.{IsLiteral}
 use Rattle.sour_syntax.specs.Program.{ProgramView, NamesDiffer, AreFunctions, HasMain, IsProgram}
 use Rattle.sour_reader.specs.declared.raw.RawVersion.{RawVersion}
 use Rattle.sour_reader.specs.declared.raw.RawFunction.{RawFunction}
 use Rattle.sour_reader.specs.declared.raw.RawJob.{RawJob}
 use Rattle.sour_reader.specs.Job.{SpellsFunctions}
+use Rattle.sour_reader.specs.Limits.{IsShortFunction}
 use Rattle.sour_scope.specs.Numbered.{version_of, function_of, functions_of, inputs_of}
-use Rattle.sour_scope.specs.Checked.{AreAccepted, IsMain, IsChecked}
+use Rattle.sour_scope.specs.Checked.{AreAccepted, IsMain, IsChecked, function_names}
 use Rattle.sour_scope.proofs.NameLaws.{named_once}
-use Rattle.sour_scope.proofs.FunctionLaws.{function_name, are_functions, function_names}
+use Rattle.sour_scope.proofs.FunctionLaws.{function_name, are_functions, functions_named, length-functions_of}
 
 -- of two tests, where the first holds
 pub same_and_empty : (name main : List ℕ) (parameters : List (List ℕ)) (empty : Bool) → name ≡ main → empty ≡ eqb (length parameters) 0
@@ -27,20 +30,20 @@ same_and_empty name main (parameter ∷ parameters) empty same is = (
 )
 
 -- where no two functions have the same name, one is main at most
-main_once : (functions : List RawFunction) (i j : ℕ) → NamesDiffer (map function_name functions) → IsMain functions i → IsMain functions j → i ≡ j
+main_once : (functions : List RawFunction) (i j : ℕ) → NamesDiffer (function_names functions) → IsMain functions i → IsMain functions j → i ≡ j
 main_once functions i j differ one other =
     named_once function_name functions _ i j one.function other.function differ one.there other.there one.name other.name
 
 -- the function that is made at a place
-slice_get-functions_of : (number last place : ℕ) (functions : List RawFunction) (function : RawFunction) → last ≡ number + place
-    → slice_get functions place ≡ Some function → slice_get (functions_of number functions) place ≡ Some (function_of last function)
-slice_get-functions_of number last place [] function is at = absurd (cc)
-slice_get-functions_of number last zero (first ∷ functions) function is at =
+slice_get-functions_of : (names : List (List ℕ)) (number last place : ℕ) (functions : List RawFunction) (function : RawFunction) → last ≡ number + place
+    → slice_get functions place ≡ Some function → slice_get (functions_of names number functions) place ≡ Some (function_of names last function)
+slice_get-functions_of names number last place [] function is at = absurd (cc)
+slice_get-functions_of names number last zero (first ∷ functions) function is at =
     let here : number ≡ last = omega arith in
     let same : first ≡ function = cc in
-    ap (λ n. Some (function_of n first)) here ∙ ap (λ f. Some (function_of last f)) same
-slice_get-functions_of number last (suc place) (first ∷ functions) function is at =
-    slice_get-functions_of (suc number) last place functions function (omega arith) at
+    ap (λ n. Some (function_of names n first)) here ∙ ap (λ f. Some (function_of names last f)) same
+slice_get-functions_of names number last (suc place) (first ∷ functions) function is at =
+    slice_get-functions_of names (suc number) last place functions function (omega arith) at
 
 -- a function of a text has versions
 has_versions : (functions : List RawFunction) (text : List (List (List ℕ))) (place : ℕ) (function : RawFunction)
@@ -53,46 +56,64 @@ has_versions (first ∷ functions) text (suc place) function (front, rest, whole
     has_versions functions rest place function others at none
 
 -- a function with versions and without parameters may be main
-main_versions : (functions : List Function) (main : FunId) (function : RawFunction) (versions : List RawVersion)
-    → slice_get functions main.0 ≡ Some (function_of main.0 function) → function.name ≡ codes "main" → function.parameters ≡ [] → function.versions ≡ versions → (versions ≡ [] → ⊥)
+main_versions : (names : List (List ℕ)) (functions : List Function) (main : FunId) (function : RawFunction) (versions : List RawVersion)
+    → slice_get functions main.0 ≡ Some (function_of names main.0 function) → function.name ≡ codes "main" → function.parameters ≡ [] → function.versions ≡ versions → (versions ≡ [] → ⊥)
     → HasMain (record { functions = functions; main = main })
-main_versions functions main function [] found named parameters is some = absurd (some refl)
-main_versions functions main function (version ∷ versions) found named parameters is some = record {
-  function = function_of main.0 function;
-  version = version_of main.0 function.parameters version;
-  others = map (version_of main.0 function.parameters) versions;
+main_versions names functions main function [] found named parameters is some = absurd (some refl)
+main_versions names functions main function (version ∷ versions) found named parameters is some = record {
+  function = function_of names main.0 function;
+  version = version_of names main.0 function.parameters version;
+  others = map (version_of names main.0 function.parameters) versions;
   found = found;
   named = named;
-  text = ap (map (version_of main.0 function.parameters)) is;
+  text = ap (map (version_of names main.0 function.parameters)) is;
   parameters = ap length parameters;
 }
 
 -- the program has a function main with a version and without parameters
-has_main : (raw : List RawFunction) (text : List (List (List ℕ))) (functions : List Function) (main : FunId)
-    → SpellsFunctions raw text → IsMain raw main.0 → functions ≡ functions_of 0 raw → HasMain (record { functions = functions; main = main })
-has_main raw text functions main spells is made =
-    let found = slice_get-functions_of 0 main.0 main.0 raw is.function (omega arith) is.there in
-    main_versions functions main is.function is.function.versions (ap (λ zs. slice_get zs main.0) made ∙ found) is.name is.parameters refl
+has_main : (names : List (List ℕ)) (raw : List RawFunction) (text : List (List (List ℕ))) (functions : List Function) (main : FunId)
+    → SpellsFunctions raw text → IsMain raw main.0 → functions ≡ functions_of names 0 raw → HasMain (record { functions = functions; main = main })
+has_main names raw text functions main spells is made =
+    let found = slice_get-functions_of names 0 main.0 main.0 raw is.function (omega arith) is.there in
+    main_versions names functions main is.function is.function.versions (ap (λ zs. slice_get zs main.0) made ∙ found) is.name is.parameters refl
     (has_versions raw text main.0 is.function spells is.there)
+
+-- there are as many functions in the program as in the text
+pub as_many : (names : List (List ℕ)) (raw : List RawFunction) (functions : List Function) → functions ≡ functions_of names 0 raw → length functions ≡ length raw
+as_many names raw functions made = ap length made ∙ length-functions_of names 0 raw
 
 -- the functions that are made of accepted ones, one of them main, are a program
 pub is_program : (raw : List RawFunction) (text : List (List (List ℕ))) (functions : List Function) (main : FunId)
-    → SpellsFunctions raw text → NamesDiffer (map function_name raw) → AreAccepted 0 raw → IsMain raw main.0
-    → functions ≡ functions_of 0 raw → IsProgram (record { functions = functions; main = main })
-is_program raw text functions main spells differ accepted is made =
+    → SpellsFunctions raw text → length raw ≤ 256 → AllByRecursion IsShortFunction raw → NamesDiffer (function_names raw)
+    → AreAccepted (function_names raw) 0 raw → IsMain raw main.0
+    → functions ≡ functions_of (function_names raw) 0 raw → IsProgram (record { functions = functions; main = main })
+is_program raw text functions main spells few short differ accepted is made =
+    let names : List (List ℕ) = function_names raw in
     let P : List (List ℕ) → Type 0 = NamesDiffer in
-    let Q : List Function → Type 0 = AreFunctions 0 in record {
-      names = subst P (sym (ap (map (λ (function : Function). function.name)) made ∙ function_names 0 raw)) differ;
-      each = subst Q (sym made) (are_functions 0 raw text spells accepted);
-      main = has_main raw text functions main spells is made;
+    let Q : List Function → Type 0 = λ zs. AreFunctions (length names) 0 zs in
+    let count : length functions ≡ length raw = as_many names raw functions made in
+    let named : length names ≡ length functions = length-map raw function_name ∙ sym count in record {
+      names = subst P (sym (ap (map (λ (function : Function). function.name)) made ∙ functions_named names 0 raw)) differ;
+      few = subst (λ n. n ≤ 256) (sym count) few;
+      each = subst (λ n. AreFunctions n 0 functions) named (subst Q (sym made) (are_functions names 0 raw text spells short accepted));
+      main = has_main names raw text functions main spells is made;
     }
+
+-- the literals of the inputs of an accepted text
+pub literals_checked : (raw : RawJob) (program : ProgramView) (others inputs slice : List (List Literal)) (count : ℕ) → IsChecked raw program others
+    → inputs ≡ inputs_of (function_names raw.functions) raw.inputs → slice ≡ inputs → count ≡ length raw.functions
+    → AllByRecursion (AllByRecursion (IsLiteral count)) slice
+literals_checked raw program others inputs slice count checked given is counted =
+    let P : ℕ → List (List Literal) → Type 0 = λ n. AllByRecursion (AllByRecursion (IsLiteral n)) in
+    subst (λ n. P n slice) (sym counted) (subst (P (length raw.functions)) (checked.given ∙ sym given ∙ sym is) checked.literals)
 
 -- the text is accepted as this program and these inputs, and as no others
 pub checked_once : (raw : RawJob) (functions : List Function) (main : FunId) (inputs : List (List Literal))
-    → NamesDiffer (map function_name raw.functions) → AreAccepted 0 raw.functions → IsMain raw.functions main.0
-    → functions ≡ functions_of 0 raw.functions → inputs ≡ inputs_of raw.inputs
+    → NamesDiffer (function_names raw.functions) → AreAccepted (function_names raw.functions) 0 raw.functions → IsMain raw.functions main.0
+    → functions ≡ functions_of (function_names raw.functions) 0 raw.functions → inputs ≡ inputs_of (function_names raw.functions) raw.inputs
+    → AllByRecursion (AllByRecursion (IsLiteral (length raw.functions))) inputs
     → (program : ProgramView) (others : List (List Literal)) → IsChecked raw program others ↔ ((program ≡ record { functions = functions; main = main }) × (others ≡ inputs))
-checked_once raw functions main inputs differ accepted is numbered given program others = (to, from)
+checked_once raw functions main inputs differ accepted is numbered given literals program others = (to, from)
   where
     to : IsChecked raw program others → (program ≡ record { functions = functions; main = main }) × (others ≡ inputs)
     to checked =
@@ -107,4 +128,5 @@ checked_once raw functions main inputs differ accepted is numbered given program
       main = subst (λ (p : ProgramView). IsMain raw.functions p.main.0) (sym program_is) is;
       numbered = ap (λ (p : ProgramView). p.functions) program_is ∙ numbered;
       given = others_is ∙ given;
+      literals = subst (AllByRecursion (AllByRecursion (IsLiteral (length raw.functions)))) (sym others_is) literals;
     }

@@ -1,10 +1,10 @@
 -- Names and their numbers: where names differ each has one place, and keeps it when names are put behind.
-use Rattle.std.proofs.Common.{◌≡◌, ◌≢◌, inl, inr, ℕ, zero, suc, ◌+◌, Bool, true, false, cond, not, ◌||◌, List, [], ◌∷◌, ◌++◌, Some, nat_eq, map, take, get_or, ◌<◌, length, append_assoc, append-nil, Result, Ok, Err, refl, sym, ap, ◌∙◌, subst, arith}
+use Rattle.std.proofs.Common.{◌≡◌, ◌≢◌, inl, inr, ℕ, zero, suc, ◌+◌, Bool, true, false, cond, not, ◌||◌, List, [], ◌∷◌, ◌++◌, Some, nat_eq, map, take, get_or, ◌<◌, ◌≤◌, length, append_assoc, append-nil, Result, Ok, Err, refl, sym, ap, ◌∙◌, subst, arith}
 use Rattle.std.specs.Prelude.{◌↔◌}
 use Rattle.std.specs.Bool.{IsTrue, OnTrue}
 use Rattle.std.specs.Result.{IfOk, OnErr}
 use Rattle.std.specs.Option.{option_map}
-use Rattle.std.proofs.lemmas.List.{map-append}
+use Rattle.std.proofs.lemmas.List.{length-append}
 use Rattle.std.specs.List.{AllByRecursion, list_any, position_or_len, slice_get}
 use Rattle.std.specs.Str.{bytes_eq}
 use Rattle.std.proofs.lemmas.Slice.Eq.{bytes_eq-Decides}
@@ -12,12 +12,14 @@ use Rattle.std.proofs.lemmas.Bool.{false≢true}
 use Rattle.std.proofs.lemmas.Bool.Decides.{Decides-eqb}
 use Rattle.std.proofs.lemmas.Option.{slice_get_within, slice_get-map, slice_get_read}
 use Rattle.std.proofs.lemmas.Map.Keys.{any_passes_from_place}
+use Rattle.sour_syntax.specs.declared.literal.FunId.{FunId}
 use Rattle.sour_syntax.specs.declared.literal.VarId.{VarId}
 use Rattle.sour_syntax.specs.Names.{Numbers}
 use Rattle.sour_syntax.specs.Program.{NamesDiffer}
 use Rattle.sour_reader.specs.Mentions.{with_name, with_names}
-use Rattle.sour_scope.specs.Numbered.{number_of}
-use Rattle.sour_scope.proofs.ListLaws.{all_at, all_push, slice_get-last}
+use Rattle.sour_scope.specs.Numbered.{number_of, function_number}
+use Rattle.sour_syntax.proofs.Everywhere.{all_at, all_push}
+use Rattle.sour_scope.proofs.ListLaws.{slice_get-last}
 
 -- a test that would hold only of the same names
 tested : (a b : List ℕ) (test : Bool) → bytes_eq a b ≡ test → a ≢ b → bytes_eq a b ≡ false
@@ -36,7 +38,7 @@ first_place (first ∷ names) more name zero differ at =
     let same : name ≡ first = cc in
     ap (λ test. cond (not test) (1 + position_or_len (bytes_eq name) (names ++ more)) 0) (sym ((bytes_eq-Decides name first).1 same))
 first_place (first ∷ names) more name (suc place) differ at =
-    let other : name ≢ first = all_at (λ other. other ≢ first) names place name differ.0 at in
+    let other : name ≢ first = all_at (λ other. other ≢ first) names place name at differ.0 in
     let next : place ≡ position_or_len (bytes_eq name) (names ++ more) = first_place names more name place differ.1 at in
     let here : suc place ≡ 1 + position_or_len (bytes_eq name) (names ++ more) = omega arith in
     here ∙ ap (λ test. cond (not test) (1 + position_or_len (bytes_eq name) (names ++ more)) 0) (sym (bytes_eq-other name first other))
@@ -93,11 +95,48 @@ number_kept names name x differ at more =
     let made : ℕ → VarId = λ n. record { 0 = n } in
     ap made place
 
--- the names differ as before, with a number or without memory for one
-pub differ_after : {E : Type 0} (result : Result VarId E) (old new : List (List ℕ)) (name : List ℕ) → NamesDiffer old
-    → IfOk result (λ x. Numbers old new name x) → OnErr result (new ≡ old) → NamesDiffer new
-differ_after (Ok x) old new name differ ok err = (numbered old new name x differ ok).1
-differ_after (Err e) old new name differ ok err = let P : List (List ℕ) → Type 0 = NamesDiffer in subst P (sym err) differ
+-- a number makes one name more at most
+within_one : (old new : List (List ℕ)) (name : List ℕ) (x : VarId) → Numbers old new name x → length new ≤ length old + 1
+within_one old new name x (inl (same, at)) =
+    let count : length new ≡ length old = ap length same in omega arith
+within_one old new name x (inr (absent, put, place)) =
+    let count : length new ≡ length old + 1 = ap length put ∙ length-append old (name ∷ []) in omega arith
+
+-- the names differ as before, and are fewer than the bound, with one more
+pub distinct_more : (old new : List (List ℕ)) (name : List ℕ) (x : VarId) (bound : ℕ) → NamesDiffer old → length old + 1 < bound
+    → Numbers old new name x → NamesDiffer new × (length new < bound)
+distinct_more old new name x bound differ room numbers =
+    let within = within_one old new name x numbers in ((numbered old new name x differ numbers).1, omega arith)
+
+-- so they do with a number or without memory for one
+pub distinct_after : {E : Type 0} (result : Result VarId E) (old new : List (List ℕ)) (name : List ℕ) (bound : ℕ) → NamesDiffer old → length old + 1 < bound
+    → IfOk result (λ x. Numbers old new name x) → OnErr result (new ≡ old) → NamesDiffer new × (length new < bound)
+distinct_after (Ok x) old new name bound differ room ok err = distinct_more old new name x bound differ room ok
+distinct_after (Err e) old new name bound differ room ok err =
+    let P : List (List ℕ) → Type 0 = NamesDiffer in
+    let count : length new ≡ length old = ap length err in (subst P (sym err) differ, omega arith)
+
+-- the number of the function with a name that is there
+pub function_there : (names : List (List ℕ)) (name : List ℕ) (place : ℕ) → NamesDiffer names → slice_get names place ≡ Some name
+    → record { 0 = place } ≡ function_number names name
+function_there names name place differ at =
+    let made : ℕ → FunId = λ n. record { 0 = n } in
+    ap made (first_place names [] name place differ at ∙ ap (position_or_len (bytes_eq name)) (append-nil names))
+
+-- where a name isn't there its place is behind the others
+no_place : (names : List (List ℕ)) (name : List ℕ) → AllByRecursion (λ other. other ≢ name) names → length names ≡ position_or_len (bytes_eq name) names
+no_place [] name absent = refl
+no_place (first ∷ names) name absent =
+    let next : length names ≡ position_or_len (bytes_eq name) names = no_place names name absent.1 in
+    let here : suc (length names) ≡ 1 + position_or_len (bytes_eq name) names = omega arith in
+    here ∙ ap (λ test. cond (not test) (1 + position_or_len (bytes_eq name) names) 0) (sym (bytes_eq-other name first (λ same. absent.0 (sym same))))
+
+-- the number of the function with a name that isn't there
+pub function_absent : (names : List (List ℕ)) (name : List ℕ) (count : ℕ) → count ≡ length names → AllByRecursion (λ other. other ≢ name) names
+    → record { 0 = count } ≡ function_number names name
+function_absent names name count is absent =
+    let made : ℕ → FunId = λ n. record { 0 = n } in
+    ap made (is ∙ no_place names name absent)
 
 -- by what the test says
 tested_new : (old new : List (List ℕ)) (name : List ℕ) (x : VarId) (test : Bool) → nat_eq x.0 (length old) ≡ test → Numbers old new name x
@@ -107,7 +146,7 @@ tested_new old new name x true is (inl (same, at)) =
     let place = (Decides-eqb x.0 (length old)).0 is in absurd (omega arith)
 tested_new old new name x true is (inr (absent, put, place)) = ((λ _. absent, λ _. refl), put)
 tested_new old new name x false is (inl (same, at)) =
-    ((λ wrong. absurd (false≢true wrong), λ absent. absurd (all_at (λ other. other ≢ name) old x.0 name absent at refl)), tt)
+    ((λ wrong. absurd (false≢true wrong), λ absent. absurd (all_at (λ other. other ≢ name) old x.0 name at absent refl)), tt)
 tested_new old new name x false is (inr (absent, put, place)) =
     absurd (false≢true (sym is ∙ (Decides-eqb x.0 (length old)).1 place))
 
@@ -123,6 +162,12 @@ pub with_names-append : (names first next : List (List ℕ)) → with_names (wit
 with_names-append names [] next = refl
 with_names-append names (name ∷ first) next = with_names-append (with_name names name) first next
 
+-- a name, and then the names of two parts
+pub names_in_turn : (old first second third : List (List ℕ)) (name : List ℕ) (some others : List (List ℕ)) → first ≡ with_name old name
+    → second ≡ with_names first some → third ≡ with_names second others → third ≡ with_names old (name ∷ some ++ others)
+names_in_turn old first second third name some others first_is second_is third_is =
+    third_is ∙ ap (λ zs. with_names zs others) (second_is ∙ ap (λ zs. with_names zs some) first_is) ∙ with_names-append (with_name old name) some others
+
 -- what is made by the names, whatever is put behind, is so made by the names behind further mentions too
 pub made_later : {A : Type 0} (of : List (List ℕ) → A) (before after mentions : List (List ℕ)) (value : A) → after ≡ with_names before mentions
     → ((more : List (List ℕ)) → value ≡ of (with_names before more)) → (more : List (List ℕ)) → value ≡ of (with_names after more)
@@ -137,7 +182,7 @@ named_before named [] (suc place) thing differ at = absurd (cc)
 named_before named (first ∷ things) zero thing differ at = tt
 named_before named (first ∷ things) (suc place) thing differ at =
     let there : slice_get (map named things) place ≡ Some (named thing) = slice_get-map named things place ∙ ap (option_map named) at in
-    (λ same. all_at (λ other. other ≢ named first) (map named things) place (named thing) differ.0 there (sym same), named_before named things place thing differ.1 at)
+    (λ same. all_at (λ other. other ≢ named first) (map named things) place (named thing) there differ.0 (sym same), named_before named things place thing differ.1 at)
 
 -- where no two things have the same name, the name of each is new
 pub new_named : {N : Type 0} (named : N → List ℕ) (things : List N) (place : ℕ) (thing : N) (seen : List (List ℕ)) (test : Bool)
@@ -154,13 +199,3 @@ named_once named things name i j one other differ at_i at_j one_is other_is =
     let i_is = first_place (map named things) [] name i differ (slice_get-map named things i ∙ ap (option_map named) at_i ∙ ap Some one_is) in
     let j_is = first_place (map named things) [] name j differ (slice_get-map named things j ∙ ap (option_map named) at_j ∙ ap Some other_is) in
     i_is ∙ sym j_is
-
--- the names so far differ, and so they do with one that is new
-pub named_more : {N : Type 0} (named : N → List ℕ) (front : List N) (thing : N) (seen after : List (List ℕ)) → NamesDiffer (map named front) → seen ≡ map named front
-    → AllByRecursion (λ other. other ≢ named thing) seen → after ≡ seen ++ named thing ∷ []
-    → NamesDiffer (map named (front ++ thing ∷ [])) × (after ≡ map named (front ++ thing ∷ []))
-named_more named front thing seen after differ is absent put =
-    let P : List (List ℕ) → Type 0 = NamesDiffer in
-    let Q : List (List ℕ) → Type 0 = λ names. AllByRecursion (λ other. other ≢ named thing) names in
-    let pushed : map named (front ++ thing ∷ []) ≡ map named front ++ named thing ∷ [] = map-append named front (thing ∷ []) in
-    (subst P (sym pushed) (NamesDiffer-push (map named front) (named thing) differ (subst Q is absent)), put ∙ ap (λ names. names ++ named thing ∷ []) is ∙ sym pushed)

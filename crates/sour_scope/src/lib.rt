@@ -5,9 +5,11 @@
 //! function and no two labels of one version have the same name; each label that an instruction goes to
 //! is there; the last instruction of each version is `return`, `stop`, `goto` or `branch`; each variable
 //! is in scope where it is used, and isn't where it is declared, with one scope for each label whatever
-//! path leads to it; and there is a function `main`, without parameters.
+//! path leads to it; each function that an instruction or an input names is there; and there is a function
+//! `main`, without parameters.
 #![tactic(auto)]
 
+mod expression_lists;
 mod expressions;
 mod fault;
 mod functions;
@@ -15,6 +17,7 @@ mod inputs;
 mod instructions;
 mod job;
 mod lines;
+mod literals;
 mod main_function;
 mod names;
 mod versions;

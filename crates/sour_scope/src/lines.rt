@@ -1,6 +1,7 @@
 //! The lines of a version.
 
 ghost use Rattle.std.specs.Prelude.{◌≡◌, ◌≤◌, ℕ, List as Listed, length, IfOk, OnOk};
+ghost use Rattle.sour_reader.specs.Limits.{HasShortInstrs};
 ghost use Rattle.sour_reader.specs.Mentions.{with_names, with_lines};
 ghost use Rattle.sour_scope.specs.Numbered.{label_of, lines_of};
 
@@ -25,17 +26,19 @@ fn label_of(alloc: Global, place: u32, label: &Option<Label>) -> Result<Label, A
 pub(crate) fn lines_of(
     alloc: Global,
     raw: &[RawLine],
+    functions: &DistinctNames,
     names: &mut DistinctNames,
 ) -> Result<List<Line>, AllocError>
     requires short { length raw.now ≤ 4096 }
+    requires instrs { HasShortInstrs raw.now }
     requires few { length names.old ≤ 255 }
     ensures names { OnOk result (names.new ≡ with_lines names.old raw.now) }
-    ensures lines { IfOk result (λ lines. lines ≡ lines_of names.new 0 raw.now) }
+    ensures lines { IfOk result (λ lines. lines ≡ lines_of functions.now names.new 0 raw.now) }
 {
     let mut lines = List::new(alloc);
     for (place, line) in raw.iter().enumerate() {
         let label = label_of(alloc, place as u32, &line.label)?;
-        let instr = instr_of(alloc, &line.instr, names)?;
+        let instr = instr_of(alloc, &line.instr, functions, names)?;
         lines.push(Line { label, instr })?;
     }
     Ok(lines)

@@ -5,9 +5,9 @@ ghost use Rattle.std.specs.Bool.{OnTrue};
 ghost use Rattle.std.specs.List.{AllByRecursion};
 ghost use Rattle.sour_syntax.specs.Program.{NamesDiffer};
 ghost use Rattle.sour_reader.specs.Mentions.{with_name, with_names};
-ghost use Rattle.sour_scope.specs.Numbered.{number_of};
+ghost use Rattle.sour_scope.specs.Numbered.{number_of, function_number};
 
-use sour_syntax::{Label, Names, VarId};
+use sour_syntax::{FunId, Label, Names, VarId};
 use std::alloc::{AllocError, Global};
 use std::marker::Model;
 
@@ -19,14 +19,14 @@ pub(crate) fn copy_of(alloc: Global, name: &Label) -> Result<Label, AllocError>
 }
 
 /// Names, no two of them the same, in the order in which they were put. Contracts see the list of their
-/// bytes.
+/// bytes, and there are fewer of them than numbers.
 #[derive(Drop)]
 pub(crate) struct DistinctNames {
     names: Names,
 }
 
 impl Model for DistinctNames {
-    ghost use Rattle.std.specs.Prelude.{List, ℕ};
+    ghost use Rattle.std.specs.Prelude.{◌<◌, ◌^◌, List, ℕ, length};
     ghost use Rattle.std.specs.Coded.{coded_list, coded_ℕ};
     ghost use Rattle.sour_syntax.specs.Program.{NamesDiffer};
 
@@ -36,7 +36,7 @@ impl Model for DistinctNames {
 
     ghost view = { λ distinct. distinct.names };
 
-    ghost invariant = { λ distinct. NamesDiffer distinct.names };
+    ghost invariant = { λ distinct. NamesDiffer distinct.names × (length distinct.names < 2 ^ 32) };
 }
 
 impl DistinctNames {
@@ -49,10 +49,28 @@ impl DistinctNames {
         }
     }
 
+    /// How many names there are.
+    pub(crate) fn len(&self) -> usize
+        ensures { result ≡ length self.now }
+    {
+        self.names.len()
+    }
+
+    /// The number of the function with this name, where the names are those of the functions. Where no
+    /// function has it the number is how many there are.
+    pub(crate) fn function(&self, name: &Label) -> FunId
+        ensures { result ≡ function_number self.now name.now }
+    {
+        match self.names.place(name.as_bytes()) {
+            Some(place) => FunId(place as u32),
+            None => FunId(self.names.len() as u32),
+        }
+    }
+
     /// The number of a name, which is put behind the others where it isn't there yet. It keeps this
     /// number, however many names are put behind.
     pub(crate) fn number(&mut self, alloc: Global, name: &Label) -> Result<VarId, AllocError>
-        requires { length self.old < 2 ^ 32 }
+        requires { length self.old + 1 < 2 ^ 32 }
         ensures names { OnOk result (self.new ≡ with_name self.old name.now) }
         ensures number { IfOk result (λ x. (more : List (List ℕ)) → x ≡ number_of (with_names self.new more) name.now) }
         ensures within { OnOk result (length self.new ≤ length self.old + 1) }
@@ -63,7 +81,7 @@ impl DistinctNames {
 
     /// Puts a name behind the others, and says whether it wasn't there before.
     pub(crate) fn add(&mut self, alloc: Global, name: &Label) -> Result<bool, AllocError>
-        requires { length self.old < 2 ^ 32 }
+        requires { length self.old + 1 < 2 ^ 32 }
         ensures whether { IfOk result (λ new. IsTrue new ↔ AllByRecursion (λ other. other ≢ name.now) self.old) }
         ensures put { IfOk result (λ new. OnTrue new (self.new ≡ self.old ++ name.now ∷ [])) }
     {

@@ -10,6 +10,7 @@ ghost use Rattle.sour_scope.specs.Numbered.{version_of};
 ghost use Rattle.sour_scope.specs.Checked.{IsAcceptedVersion};
 
 use crate::lines::lines_of;
+use crate::literals::lines_are_known;
 use crate::names::{DistinctNames, copy_of};
 use sour_reader::RawVersion;
 use sour_syntax::{Body, FunId, Label, List, Version};
@@ -34,15 +35,19 @@ fn version_of(
     function: FunId,
     parameters: &[Label],
     raw: &RawVersion,
+    functions: &DistinctNames,
 ) -> Result<Option<Version>, AllocError>
     requires few { length parameters.now ≤ 255 }
     requires short { IsShortVersion parameters.now raw.now }
-    ensures some { IfOk result (λ found. IfSome found (λ version. version ≡ version_of function.0 parameters.now raw.now)) }
-    ensures accepted { IfOk result (λ found. OnSome found (IsAcceptedVersion function.0 parameters.now raw.now)) }
-    ensures none { IfOk result (λ found. IfNone found (IsAcceptedVersion function.0 parameters.now raw.now → ⊥)) }
+    ensures some { IfOk result (λ found. IfSome found (λ version. version ≡ version_of functions.now function.0 parameters.now raw.now)) }
+    ensures accepted { IfOk result (λ found. OnSome found (IsAcceptedVersion functions.now function.0 parameters.now raw.now)) }
+    ensures none { IfOk result (λ found. IfNone found (IsAcceptedVersion functions.now function.0 parameters.now raw.now → ⊥)) }
 {
     let mut variables = first_variables(alloc, parameters)?;
-    let lines = lines_of(alloc, raw.lines.as_slice(), &mut variables)?;
+    let lines = lines_of(alloc, raw.lines.as_slice(), functions, &mut variables)?;
+    if !lines_are_known(lines.as_slice(), functions.len()) {
+        return Ok(None);
+    }
     let count = parameters.len() as u32;
     let Some(body) = Body::checked(alloc, function, count, variables.into_names(), lines)? else {
         return Ok(None);
@@ -58,15 +63,16 @@ pub(crate) fn versions_of(
     function: FunId,
     parameters: &[Label],
     raw: &[RawVersion],
+    functions: &DistinctNames,
 ) -> Result<Option<List<Version>>, AllocError>
     requires few { length parameters.now ≤ 255 }
     requires count { length raw.now ≤ 16 }
     requires short { AllByRecursion (IsShortVersion parameters.now) raw.now }
-    ensures some { IfOk result (λ found. IfSome found (λ versions. versions ≡ map (version_of function.0 parameters.now) raw.now)) }
+    ensures some { IfOk result (λ found. IfSome found (λ versions. versions ≡ map (version_of functions.now function.0 parameters.now) raw.now)) }
     ensures differ { IfOk result (λ found. OnSome found (NamesDiffer (map (λ (version : RawVersion). version.name) raw.now))) }
-    ensures accepted { IfOk result (λ found. OnSome found (AllByRecursion (IsAcceptedVersion function.0 parameters.now) raw.now)) }
+    ensures accepted { IfOk result (λ found. OnSome found (AllByRecursion (IsAcceptedVersion functions.now function.0 parameters.now) raw.now)) }
     ensures none { IfOk result (λ found. IfNone found (NamesDiffer (map (λ (version : RawVersion). version.name) raw.now)
-        → AllByRecursion (IsAcceptedVersion function.0 parameters.now) raw.now → ⊥)) }
+        → AllByRecursion (IsAcceptedVersion functions.now function.0 parameters.now) raw.now → ⊥)) }
 {
     let mut seen = DistinctNames::new(alloc);
     let mut versions = List::new(alloc);
@@ -74,7 +80,7 @@ pub(crate) fn versions_of(
         if !seen.add(alloc, &version.name)? {
             return Ok(None);
         }
-        let Some(version) = version_of(alloc, function, parameters, version)? else {
+        let Some(version) = version_of(alloc, function, parameters, version, functions)? else {
             return Ok(None);
         };
         versions.push(version)?;

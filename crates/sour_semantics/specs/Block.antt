@@ -1,4 +1,4 @@
-use Rattle.std.specs.Prelude.{◌≡◌, ◌+◌, ◌⊎◌, ℕ, List, [], ◌∷◌, ◌++◌, Option, None, Some, decimal, codes}
+use Rattle.std.specs.Prelude.{◌≡◌, ◌≤◌, ◌+◌, ◌⊎◌, ℕ, List, [], ◌∷◌, ◌++◌, Option, None, Some, decimal, codes}
 use Rattle.sour_syntax.specs.declared.literal.Literal.{Literal}
 use Rattle.sour_syntax.specs.Program.{ProgramView}
 use Rattle.sour_syntax.specs.Trap.{trap_number}
@@ -42,16 +42,17 @@ pub record ShowsText (program : ProgramView) (input : List Literal) (number budg
   pub ends_so : end ≡ block_end state.ending
   pub written : bytes ≡ block number state.output (end_text program state.heap state.ending)
 
--- the block of a run that found no memory: it shows the output of some moment of the text's run
-pub record ShowsWant (program : ProgramView) (input : List Literal) (number : ℕ) (end : BlockEnd) (bytes : List ℕ) : Type 0 where
+-- the block of a run that found no memory: it shows the output of some moment of the text's run within the budget
+pub record ShowsWant (program : ProgramView) (input : List Literal) (number budget : ℕ) (end : BlockEnd) (bytes : List ℕ) : Type 0 where
   pub steps : ℕ
+  pub within : (text_run program steps (start program input)).turns ≤ budget
   pub ends_so : end ≡ memory
   pub written : bytes ≡ block number (text_run program steps (start program input)).output (codes "memory")
 
 -- what a block of a run of the text may show
 abbrev pub RunShows : ProgramView → List Literal → ℕ → ℕ → BlockEnd → List ℕ → Type 0
 RunShows program input number budget end bytes =
-    ShowsText program input number budget end bytes ⊎ ShowsWant program input number end bytes
+    ShowsText program input number budget end bytes ⊎ ShowsWant program input number budget end bytes
 
 -- the blocks of these inputs, in order, the first with this number
 abbrev pub RunShowsAll : ProgramView → List (List Literal) → ℕ → ℕ → List BlockEnd → List ℕ → Type 0

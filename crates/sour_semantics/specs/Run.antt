@@ -1,34 +1,24 @@
-use Rattle.std.specs.Prelude.{◌≡◌, ◌<◌, ◌≤◌, ◌⊎◌, ℕ, zero, suc, List, [], ◌∷◌, None, IsSome, length, replicate}
-use Rattle.sour_syntax.specs.declared.literal.FunId.{FunId}
+use Rattle.std.specs.Prelude.{◌≡◌, ◌<◌, ◌≤◌, ◌⊎◌, ℕ, zero, suc, List, [], ◌∷◌, None, IsSome}
 use Rattle.sour_syntax.specs.declared.literal.Literal.{Literal}
-use Rattle.sour_syntax.specs.Labels.{first_label}
+use Rattle.sour_syntax.specs.declared.literal.Value.{Value}
 use Rattle.sour_syntax.specs.Program.{ProgramView}
-use Rattle.sour_semantics.specs.State.{Environment, Frame, text, State}
-use Rattle.sour_semantics.specs.Step.{step, text_choice, body_of, lines_of}
+use Rattle.sour_semantics.specs.State.{Heap, FrameCode, text, State}
+use Rattle.sour_semantics.specs.Step.{step, text_choice, body_of, entered_frame}
 
--- no variable has a value
-abbrev pub empty_environment : ℕ → Environment
-empty_environment count = replicate count None
-
--- a frame of the text version of a function, at its first line
-abbrev pub first_frame : ProgramView → FunId → Frame
-first_frame program function = record {
-  code = text function 0;
-  label = first_label (lines_of program (text function 0));
-  environment = empty_environment (length ((body_of program (text function 0)).variables));
-  waits = None;
+-- the start of a run of this code with these values of the parameters, over this heap, with this rest of the input and this output so far
+abbrev pub start_of : ProgramView → FrameCode → List Value → Heap → List Literal → List ℕ → State
+start_of program code values heap rest output = record {
+  frames = entered_frame code (body_of program code) values ∷ [];
+  heap = heap;
+  rest = rest;
+  output = output;
+  turns = 0;
+  ending = None;
 }
 
 -- the start of a run of main
 abbrev pub start : ProgramView → List Literal → State
-start program input = record {
-  frames = first_frame program program.main ∷ [];
-  heap = [];
-  rest = input;
-  output = [];
-  turns = 0;
-  ending = None;
-}
+start program input = start_of program (text program.main 0) [] [] input []
 
 -- the state after so many steps in which each call enters the text version of its function
 abbrev pub text_run : ProgramView → ℕ → State → State

@@ -5,7 +5,7 @@ use Rattle.std.proofs.lemmas.List.{length-map, length-drop}
 use Rattle.std.proofs.lemmas.List.Elements.{Contains-append_right}
 use Rattle.std.proofs.lemmas.Option.{slice_get_within}
 use Rattle.sour_syntax.specs.declared.instruction.Instr.{Instr}
-use Rattle.sour_syntax.specs.declared.instruction.Instr.TheVariants.{Var, Drop, Assign, Print, Read, Branch, Goto, Return, Stop}
+use Rattle.sour_syntax.specs.declared.instruction.Instr.TheVariants.{Var, Drop, Assign, ArrayLength, ArrayList, Store, Print, Read, Branch, Goto, Call, Return, Stop}
 use Rattle.sour_syntax.specs.declared.instruction.Line.{Line}
 use Rattle.sour_syntax.specs.declared.jump.Jump.{Jump}
 use Rattle.sour_syntax.specs.Labels.{LabelsDiffer, labels_of, first_label, label_at, from_label, IsPlaceOf}
@@ -39,6 +39,9 @@ pub followers_are : (lines : List Line) (instr : Instr) (jump : Jump) (next : �
 followers_are lines (Var x e) jump next goes = refl
 followers_are lines (Drop x) jump next goes = refl
 followers_are lines (Assign x e) jump next goes = refl
+followers_are lines (ArrayLength x e) jump next goes = refl
+followers_are lines (ArrayList x es) jump next goes = refl
+followers_are lines (Store x i e) jump next goes = refl
 followers_are lines (Print e) jump next goes = refl
 followers_are lines (Read x) jump next goes = refl
 followers_are lines (Branch e a b) jump next goes =
@@ -46,6 +49,7 @@ followers_are lines (Branch e a b) jump next goes =
     let second : label_at lines jump.second ≡ b = label_at-IsPlaceOf lines b jump.second goes.1 in cc
 followers_are lines (Goto a) jump next goes =
     let first : label_at lines jump.first ≡ a = label_at-IsPlaceOf lines a jump.first goes in cc
+followers_are lines (Call x callee es) jump next goes = refl
 followers_are lines (Return e) jump next goes = refl
 followers_are lines Stop jump next goes = refl
 
@@ -64,10 +68,14 @@ follow_within : (lines : List Line) (instr : Instr) (jump : Jump) (next : ℕ) �
 follow_within lines (Var x e) jump next on goes = (on (λ no. no), tt)
 follow_within lines (Drop x) jump next on goes = (on (λ no. no), tt)
 follow_within lines (Assign x e) jump next on goes = (on (λ no. no), tt)
+follow_within lines (ArrayLength x e) jump next on goes = (on (λ no. no), tt)
+follow_within lines (ArrayList x es) jump next on goes = (on (λ no. no), tt)
+follow_within lines (Store x i e) jump next on goes = (on (λ no. no), tt)
 follow_within lines (Print e) jump next on goes = (on (λ no. no), tt)
 follow_within lines (Read x) jump next on goes = (on (λ no. no), tt)
 follow_within lines (Branch e a b) jump next on goes = (IsPlaceOf-within lines a jump.first goes.0, (IsPlaceOf-within lines b jump.second goes.1, tt))
 follow_within lines (Goto a) jump next on goes = (IsPlaceOf-within lines a jump.first goes, tt)
+follow_within lines (Call x callee es) jump next on goes = (on (λ no. no), tt)
 follow_within lines (Return e) jump next on goes = tt
 follow_within lines Stop jump next on goes = tt
 

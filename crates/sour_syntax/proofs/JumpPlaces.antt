@@ -3,7 +3,7 @@ use Rattle.std.proofs.Common.{◌≡◌, ℕ, zero, suc, ◌+◌, ◌<◌, List,
 use Rattle.std.specs.List.{AllByRecursion}
 use Rattle.std.proofs.lemmas.Option.{slice_get_within, get_or_from_slice_get}
 use Rattle.sour_syntax.specs.declared.instruction.Instr.{Instr}
-use Rattle.sour_syntax.specs.declared.instruction.Instr.TheVariants.{Var, Drop, Assign, Print, Read, Branch, Goto, Return, Stop}
+use Rattle.sour_syntax.specs.declared.instruction.Instr.TheVariants.{Var, Drop, Assign, ArrayLength, ArrayList, Store, Print, Read, Branch, Goto, Call, Return, Stop}
 use Rattle.sour_syntax.specs.declared.instruction.Line.{Line}
 use Rattle.sour_syntax.specs.declared.jump.Jump.{Jump}
 use Rattle.sour_syntax.specs.Labels.{labels_of}
@@ -17,10 +17,14 @@ names_its : (labels : List (List ℕ)) (instr : Instr) (jump : Jump) → GoesAmo
 names_its labels (Var x e) jump goes = tt
 names_its labels (Drop x) jump goes = tt
 names_its labels (Assign x e) jump goes = tt
+names_its labels (ArrayLength x e) jump goes = tt
+names_its labels (ArrayList x es) jump goes = tt
+names_its labels (Store x i e) jump goes = tt
 names_its labels (Print e) jump goes = tt
 names_its labels (Read x) jump goes = tt
 names_its labels (Branch e a b) jump goes = (there labels jump.first a goes.0, (there labels jump.second b goes.1, tt))
 names_its labels (Goto a) jump goes = (there labels jump.first a goes, tt)
+names_its labels (Call x callee es) jump goes = tt
 names_its labels (Return e) jump goes = tt
 names_its labels Stop jump goes = tt
 

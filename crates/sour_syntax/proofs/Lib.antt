@@ -1,6 +1,7 @@
 pub mod NameLemmas
 pub mod LabelPlaces
 pub mod Everywhere
+pub mod EachExpression
 pub mod Following
 pub mod LabelSets
 pub mod JumpPlaces

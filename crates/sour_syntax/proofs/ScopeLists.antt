@@ -2,7 +2,7 @@
 use Rattle.std.proofs.Common.{◌≡◌, ℕ, zero, suc, ◌+◌, ◌-◌, ◌<◌, ◌≤◌, Bool, true, false, List, [], ◌∷◌, ◌++◌, Option, None, Some, length, map, take, drop, drop-cons, get_or, slice_get, append_assoc, refl, sym, ap, ◌∙◌, subst, add-one, arith}
 use Rattle.std.proofs.lemmas.List.{length-append, length-replicate, length-set, map-append}
 use Rattle.sour_syntax.specs.declared.instruction.Instr.{Instr}
-use Rattle.sour_syntax.specs.declared.instruction.Instr.TheVariants.{Var, Drop, Assign, Print, Read, Branch, Goto, Return, Stop}
+use Rattle.sour_syntax.specs.declared.instruction.Instr.TheVariants.{Var, Drop, Assign, ArrayLength, ArrayList, Store, Print, Read, Branch, Goto, Call, Return, Stop}
 use Rattle.sour_syntax.specs.declared.literal.VarId.{VarId}
 use Rattle.sour_syntax.specs.BodyView.{BodyView}
 use Rattle.sour_syntax.specs.Body.{KeepsScope, KeepsScopes}
@@ -58,10 +58,14 @@ length_after : (instr : Instr) (scope : Scope) → length (scope_after instr sco
 length_after (Var x e) scope = length-set scope x.0 true
 length_after (Drop x) scope = length-set scope x.0 false
 length_after (Assign x e) scope = refl
+length_after (ArrayLength x e) scope = length-set scope x.0 true
+length_after (ArrayList x es) scope = length-set scope x.0 true
+length_after (Store x i e) scope = refl
 length_after (Print e) scope = refl
 length_after (Read x) scope = length-set scope x.0 true
 length_after (Branch e a b) scope = refl
 length_after (Goto a) scope = refl
+length_after (Call x callee es) scope = length-set scope x.0 true
 length_after (Return e) scope = refl
 length_after Stop scope = refl
 

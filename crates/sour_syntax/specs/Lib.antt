@@ -6,5 +6,6 @@ pub mod Terminator
 pub mod Jumps
 pub mod Scopes
 pub mod Body
+pub mod Literals
 pub mod Program
 pub mod Spread

@@ -7,7 +7,7 @@ use Rattle.sour_syntax.specs.declared.expression.Simple.TheVariants as simple
 use Rattle.sour_syntax.specs.declared.expression.Expr.{Expr}
 use Rattle.sour_syntax.specs.declared.expression.Expr.TheVariants as expr
 use Rattle.sour_syntax.specs.declared.instruction.Instr.{Instr}
-use Rattle.sour_syntax.specs.declared.instruction.Instr.TheVariants.{Var, Drop, Assign, Print, Read, Branch, Goto, Return, Stop}
+use Rattle.sour_syntax.specs.declared.instruction.Instr.TheVariants.{Var, Drop, Assign, ArrayLength, ArrayList, Store, Print, Read, Branch, Goto, Call, Return, Stop}
 use Rattle.sour_syntax.specs.declared.instruction.Line.{Line}
 use Rattle.sour_syntax.specs.BodyView.{BodyView}
 use Rattle.sour_syntax.specs.Labels.{from_label, first_label, label_at}
@@ -24,18 +24,29 @@ simple_variables (simple.Var x) = x ∷ []
 -- the variables of an expression
 abbrev pub variables_of_expr : Expr → List VarId
 variables_of_expr (expr.Plain a) = simple_variables a
+variables_of_expr (expr.Cell x index) = x ∷ simple_variables index
+variables_of_expr (expr.Length a) = simple_variables a
 variables_of_expr (expr.Not a) = simple_variables a
 variables_of_expr (expr.Binary op a b) = simple_variables a ++ simple_variables b
+
+-- the variables of some expressions, in the order in which they are written
+abbrev pub variables_of_each : List Expr → List VarId
+variables_of_each [] = []
+variables_of_each (e ∷ es) = variables_of_expr e ++ variables_of_each es
 
 -- the variables that must be in scope before an instruction
 abbrev pub needed : Instr → List VarId
 needed (Var x e) = variables_of_expr e
 needed (Drop x) = x ∷ []
 needed (Assign x e) = x ∷ variables_of_expr e
+needed (ArrayLength x e) = variables_of_expr e
+needed (ArrayList x es) = variables_of_each es
+needed (Store x index e) = x ∷ simple_variables index ++ variables_of_expr e
 needed (Print e) = variables_of_expr e
 needed (Read x) = []
 needed (Branch e a b) = variables_of_expr e
 needed (Goto a) = []
+needed (Call x callee es) = simple_variables callee ++ variables_of_each es
 needed (Return e) = variables_of_expr e
 needed Stop = []
 
@@ -44,10 +55,14 @@ abbrev pub declared_by : Instr → List VarId
 declared_by (Var x e) = x ∷ []
 declared_by (Drop x) = []
 declared_by (Assign x e) = []
+declared_by (ArrayLength x e) = x ∷ []
+declared_by (ArrayList x es) = x ∷ []
+declared_by (Store x index e) = []
 declared_by (Print e) = []
 declared_by (Read x) = []
 declared_by (Branch e a b) = []
 declared_by (Goto a) = []
+declared_by (Call x callee es) = []
 declared_by (Return e) = []
 declared_by Stop = []
 
@@ -56,10 +71,14 @@ abbrev pub mentioned : Instr → List VarId
 mentioned (Var x e) = x ∷ variables_of_expr e
 mentioned (Drop x) = x ∷ []
 mentioned (Assign x e) = x ∷ variables_of_expr e
+mentioned (ArrayLength x e) = x ∷ variables_of_expr e
+mentioned (ArrayList x es) = x ∷ variables_of_each es
+mentioned (Store x index e) = x ∷ simple_variables index ++ variables_of_expr e
 mentioned (Print e) = variables_of_expr e
 mentioned (Read x) = x ∷ []
 mentioned (Branch e a b) = variables_of_expr e
 mentioned (Goto a) = []
+mentioned (Call x callee es) = x ∷ simple_variables callee ++ variables_of_each es
 mentioned (Return e) = variables_of_expr e
 mentioned Stop = []
 
@@ -68,10 +87,14 @@ abbrev pub scope_after : Instr → Scope → Scope
 scope_after (Var x e) scope = slice_set scope x.0 true
 scope_after (Drop x) scope = slice_set scope x.0 false
 scope_after (Assign x e) scope = scope
+scope_after (ArrayLength x e) scope = slice_set scope x.0 true
+scope_after (ArrayList x es) scope = slice_set scope x.0 true
+scope_after (Store x index e) scope = scope
 scope_after (Print e) scope = scope
 scope_after (Read x) scope = slice_set scope x.0 true
 scope_after (Branch e a b) scope = scope
 scope_after (Goto a) scope = scope
+scope_after (Call x callee es) scope = slice_set scope x.0 true
 scope_after (Return e) scope = scope
 scope_after Stop scope = scope
 
@@ -80,10 +103,14 @@ abbrev pub followers : Instr → List ℕ → List (List ℕ)
 followers (Var x e) next = next ∷ []
 followers (Drop x) next = next ∷ []
 followers (Assign x e) next = next ∷ []
+followers (ArrayLength x e) next = next ∷ []
+followers (ArrayList x es) next = next ∷ []
+followers (Store x index e) next = next ∷ []
 followers (Print e) next = next ∷ []
 followers (Read x) next = next ∷ []
 followers (Branch e a b) next = a ∷ b ∷ []
 followers (Goto a) next = a ∷ []
+followers (Call x callee es) next = next ∷ []
 followers (Return e) next = []
 followers Stop next = []
 

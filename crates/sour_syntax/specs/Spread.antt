@@ -4,7 +4,7 @@ use Rattle.sour_syntax.specs.declared.jump.Jump.{Jump}
 use Rattle.sour_syntax.specs.declared.literal.VarId.{VarId}
 use Rattle.sour_syntax.specs.declared.scope_table.ScopeTable.{ScopeTable}
 use Rattle.sour_syntax.specs.declared.instruction.Instr.{Instr}
-use Rattle.sour_syntax.specs.declared.instruction.Instr.TheVariants.{Var, Drop, Assign, Print, Read, Branch, Goto, Return, Stop}
+use Rattle.sour_syntax.specs.declared.instruction.Instr.TheVariants.{Var, Drop, Assign, ArrayLength, ArrayList, Store, Print, Read, Branch, Goto, Call, Return, Stop}
 use Rattle.sour_syntax.specs.BodyView.{BodyView}
 use Rattle.sour_syntax.specs.Labels.{label_at}
 use Rattle.sour_syntax.specs.Scopes.{Scope, scope_after, members, IsFine, HasScope, IsUnreached}
@@ -18,10 +18,14 @@ abbrev pub following : Instr → Jump → ℕ → List ℕ
 following (Var x e) jump next = next ∷ []
 following (Drop x) jump next = next ∷ []
 following (Assign x e) jump next = next ∷ []
+following (ArrayLength x e) jump next = next ∷ []
+following (ArrayList x es) jump next = next ∷ []
+following (Store x i e) jump next = next ∷ []
 following (Print e) jump next = next ∷ []
 following (Read x) jump next = next ∷ []
 following (Branch e a b) jump next = jump.first ∷ jump.second ∷ []
 following (Goto a) jump next = jump.first ∷ []
+following (Call x callee es) jump next = next ∷ []
 following (Return e) jump next = []
 following Stop jump next = []
 

@@ -1,7 +1,7 @@
 -- How a version ends.
 use Rattle.std.specs.Prelude.{List, [], ◌∷◌}
 use Rattle.sour_syntax.specs.declared.instruction.Instr.{Instr}
-use Rattle.sour_syntax.specs.declared.instruction.Instr.TheVariants.{Var, Drop, Assign, Print, Read, Branch, Goto, Return, Stop}
+use Rattle.sour_syntax.specs.declared.instruction.Instr.TheVariants.{Var, Drop, Assign, ArrayLength, ArrayList, Store, Print, Read, Branch, Goto, Call, Return, Stop}
 use Rattle.sour_syntax.specs.declared.instruction.Line.{Line}
 
 -- the line behind it doesn't follow it
@@ -9,10 +9,14 @@ abbrev pub IsTerminator : Instr → Type 0
 IsTerminator (Var x e) = ⊥
 IsTerminator (Drop x) = ⊥
 IsTerminator (Assign x e) = ⊥
+IsTerminator (ArrayLength x e) = ⊥
+IsTerminator (ArrayList x es) = ⊥
+IsTerminator (Store x i e) = ⊥
 IsTerminator (Print e) = ⊥
 IsTerminator (Read x) = ⊥
 IsTerminator (Branch e a b) = Unit {0}
 IsTerminator (Goto a) = Unit {0}
+IsTerminator (Call x callee es) = ⊥
 IsTerminator (Return e) = Unit {0}
 IsTerminator Stop = Unit {0}
 

@@ -29,6 +29,10 @@ pub enum Op {
 #[derive(Clone, Copy, Debug, PartialEq, Eq)]
 pub enum Expr {
     Plain(Simple),
+    /// The cell at an index of an array; indexes count from 0.
+    Cell(VarId, Simple),
+    /// How many cells an array has.
+    Length(Simple),
     /// The other truth value.
     Not(Simple),
     Binary(Op, Simple, Simple),

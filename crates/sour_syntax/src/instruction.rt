@@ -1,5 +1,6 @@
-use crate::expression::Expr;
+use crate::expression::{Expr, Simple};
 use crate::label::Label;
+use crate::list::List;
 use crate::literal::VarId;
 
 /// An instruction.
@@ -11,6 +12,12 @@ pub enum Instr {
     Drop(VarId),
     /// Gives a variable, which is in scope, the value of an expression.
     Assign(VarId, Expr),
+    /// Declares a variable with a new array of this many cells, each `nil`.
+    ArrayLength(VarId, Expr),
+    /// Declares a variable with a new array of these values.
+    ArrayList(VarId, List<Expr>),
+    /// Writes the value of the expression into the cell at an index of an array.
+    Store(VarId, Simple, Expr),
     /// Appends the text of a value and a line feed to the output.
     Print(Expr),
     /// Takes the next value of the input: gives it to the variable, or declares the variable with it.
@@ -19,6 +26,9 @@ pub enum Instr {
     Branch(Expr, Label, Label),
     /// Goes to the line with this label.
     Goto(Label),
+    /// Enters a function with the values of the arguments. What it returns is given to the variable, or
+    /// declares it.
+    Call(VarId, Simple, List<Expr>),
     /// Ends the frame with a value; in the last frame it ends the run.
     Return(Expr),
     /// Ends the run.

@@ -33,8 +33,12 @@ fn jump_of(instr: &Instr, labels: &LabelPlaces) -> Option<Jump>
         Instr::Var(_, _) => Some(nowhere),
         Instr::Drop(_) => Some(nowhere),
         Instr::Assign(_, _) => Some(nowhere),
+        Instr::ArrayLength(_, _) => Some(nowhere),
+        Instr::ArrayList(_, _) => Some(nowhere),
+        Instr::Store(_, _, _) => Some(nowhere),
         Instr::Print(_) => Some(nowhere),
         Instr::Read(_) => Some(nowhere),
+        Instr::Call(_, _, _) => Some(nowhere),
         Instr::Return(_) => Some(nowhere),
         Instr::Stop => Some(nowhere),
     }

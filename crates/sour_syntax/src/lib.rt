@@ -32,7 +32,7 @@ pub use job::Job;
 pub use jump::Jump;
 pub use label::Label;
 pub use list::List;
-pub use literal::{FunId, Literal, Value, VarId};
+pub use literal::{ArrayId, FunId, Literal, Value, VarId};
 pub use names::Names;
 pub use program::{Function, Program, Version};
 pub use trap::Trap;

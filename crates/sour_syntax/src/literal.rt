@@ -6,16 +6,22 @@ pub struct FunId(pub u32);
 #[derive(Clone, Copy, Debug, PartialEq, Eq)]
 pub struct VarId(pub u32);
 
+/// The number of an array: how many arrays the run had made before it.
+#[derive(Clone, Copy, Debug, PartialEq, Eq)]
+pub struct ArrayId(pub u64);
+
 /// A value that a text can spell.
 #[derive(Clone, Copy, Debug, PartialEq, Eq)]
 pub enum Literal {
     Number(i64),
     Truth(bool),
     Nil,
+    Function(FunId),
 }
 
 /// What an expression evaluates to.
 #[derive(Clone, Copy, Debug, PartialEq, Eq)]
 pub enum Value {
     Plain(Literal),
+    Array(ArrayId),
 }

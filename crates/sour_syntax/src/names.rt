@@ -1,4 +1,5 @@
-ghost use Rattle.std.specs.Prelude.{◌≡◌, ◌^◌, ◌<◌, ◌≤◌, [], ◌∷◌, ◌++◌, Some, None, length, slice_get, Contains, IfOk, OnErr, IfSome, IfNone};
+ghost use Rattle.std.specs.Prelude.{◌≡◌, ◌≢◌, ◌^◌, ◌<◌, ◌≤◌, [], Some, length, slice_get, IfOk, OnErr, IfSome, IfNone};
+ghost use Rattle.std.specs.List.{AllByRecursion};
 ghost use Rattle.sour_syntax.specs.Names.{Numbers};
 
 use crate::literal::VarId;
@@ -42,6 +43,14 @@ impl Names {
         ensures few { result ≤ 2 ^ 32 }
     {
         self.names.len()
+    }
+
+    /// The place of a name, counted from 0; none exactly where it isn't among the names.
+    pub fn place(&self, name: &[u8]) -> Option<usize>
+        ensures found { IfSome result (λ place. slice_get self.now place ≡ Some name.now) }
+        ensures none { IfNone result (AllByRecursion (λ other. other ≢ name.now) self.now) }
+    {
+        self.names.get_index_of(name)
     }
 
     /// The number of a name, which is put behind the others where it isn't there yet.

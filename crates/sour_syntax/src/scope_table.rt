@@ -28,8 +28,12 @@ fn followers(instr: &Instr, jump: Jump, next: usize) -> (Option<usize>, Option<u
         Instr::Var(_, _) => (Some(next), None),
         Instr::Drop(_) => (Some(next), None),
         Instr::Assign(_, _) => (Some(next), None),
+        Instr::ArrayLength(_, _) => (Some(next), None),
+        Instr::ArrayList(_, _) => (Some(next), None),
+        Instr::Store(_, _, _) => (Some(next), None),
         Instr::Print(_) => (Some(next), None),
         Instr::Read(_) => (Some(next), None),
+        Instr::Call(_, _, _) => (Some(next), None),
     }
 }
 

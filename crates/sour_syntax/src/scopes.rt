@@ -2,7 +2,7 @@
 
 ghost use Rattle.std.specs.Prelude.{◌≡◌, ◌<◌, ◌↔◌, Bool, IsTrue, true, false, slice_set};
 ghost use Rattle.std.specs.List.{AllByRecursion};
-ghost use Rattle.sour_syntax.specs.Scopes.{simple_variables, variables_of_expr, mentioned, scope_after, IsInScope, IsOutOfScope, IsFine};
+ghost use Rattle.sour_syntax.specs.Scopes.{simple_variables, variables_of_expr, variables_of_each, scope_after, IsInScope, IsOutOfScope, IsFine};
 
 use crate::expression::{Expr, Simple};
 use crate::instruction::Instr;
@@ -39,14 +39,28 @@ fn has_operand(operand: Simple, scope: &[bool]) -> bool
 }
 
 /// Whether the variables of an expression are in scope.
-fn has_variables(e: Expr, scope: &[bool]) -> bool
-    ensures { IsTrue result ↔ AllByRecursion (IsInScope scope.now) (variables_of_expr e) }
+fn has_variables(e: &Expr, scope: &[bool]) -> bool
+    ensures { IsTrue result ↔ AllByRecursion (IsInScope scope.now) (variables_of_expr e.now) }
 {
     match e {
-        Expr::Plain(a) => has_operand(a, scope),
-        Expr::Not(a) => has_operand(a, scope),
-        Expr::Binary(_, a, b) => has_operand(a, scope) && has_operand(b, scope),
+        Expr::Plain(a) => has_operand(*a, scope),
+        Expr::Cell(x, index) => is_in_scope(*x, scope) && has_operand(*index, scope),
+        Expr::Length(a) => has_operand(*a, scope),
+        Expr::Not(a) => has_operand(*a, scope),
+        Expr::Binary(_, a, b) => has_operand(*a, scope) && has_operand(*b, scope),
     }
+}
+
+/// Whether the variables of some expressions are in scope.
+fn each_has_variables(es: &[Expr], scope: &[bool]) -> bool
+    ensures { IsTrue result ↔ AllByRecursion (IsInScope scope.now) (variables_of_each es.now) }
+{
+    for e in es {
+        if !has_variables(e, scope) {
+            return false;
+        }
+    }
+    true
 }
 
 /// Whether an instruction may stand where this is the scope.
@@ -54,14 +68,24 @@ pub(crate) fn is_fine(instr: &Instr, scope: &[bool]) -> bool
     ensures { IsTrue result ↔ IsFine instr.now scope.now }
 {
     match instr {
-        Instr::Var(x, e) => is_out_of_scope(*x, scope) && has_variables(*e, scope),
+        Instr::Var(x, e) => is_out_of_scope(*x, scope) && has_variables(e, scope),
         Instr::Drop(x) => is_in_scope(*x, scope),
-        Instr::Assign(x, e) => is_in_scope(*x, scope) && has_variables(*e, scope),
-        Instr::Print(e) => has_variables(*e, scope),
+        Instr::Assign(x, e) => is_in_scope(*x, scope) && has_variables(e, scope),
+        Instr::ArrayLength(x, e) => is_out_of_scope(*x, scope) && has_variables(e, scope),
+        Instr::ArrayList(x, es) => {
+            is_out_of_scope(*x, scope) && each_has_variables(es.as_slice(), scope)
+        }
+        Instr::Store(x, index, e) => {
+            is_in_scope(*x, scope) && has_operand(*index, scope) && has_variables(e, scope)
+        }
+        Instr::Print(e) => has_variables(e, scope),
         Instr::Read(_) => true,
-        Instr::Branch(e, _, _) => has_variables(*e, scope),
+        Instr::Branch(e, _, _) => has_variables(e, scope),
         Instr::Goto(_) => true,
-        Instr::Return(e) => has_variables(*e, scope),
+        Instr::Call(_, callee, es) => {
+            has_operand(*callee, scope) && each_has_variables(es.as_slice(), scope)
+        }
+        Instr::Return(e) => has_variables(e, scope),
         Instr::Stop => true,
     }
 }
@@ -83,8 +107,12 @@ pub(crate) fn pass(instr: &Instr, scope: &mut Vec<bool>)
     match instr {
         Instr::Var(x, _) => put(*x, true, scope),
         Instr::Drop(x) => put(*x, false, scope),
+        Instr::ArrayLength(x, _) => put(*x, true, scope),
+        Instr::ArrayList(x, _) => put(*x, true, scope),
         Instr::Read(x) => put(*x, true, scope),
+        Instr::Call(x, _, _) => put(*x, true, scope),
         Instr::Assign(_, _) => (),
+        Instr::Store(_, _, _) => (),
         Instr::Print(_) => (),
         Instr::Branch(_, _, _) => (),
         Instr::Goto(_) => (),

@@ -1,4 +1,5 @@
-ghost use Rattle.std.specs.Prelude.{◌≡◌, IfOk, IfSome};
+ghost use Rattle.std.specs.Prelude.{◌≡◌, ◌≤◌, length, IfOk};
+ghost use Rattle.sour_syntax.specs.Program.{HasLiterals};
 
 use crate::{
     Body, Expr, FunId, Function, Instr, Label, Line, List, Literal, Names, Program, Simple, Trap,
@@ -35,6 +36,9 @@ fn labels_are_their_bytes(rt: HostRuntime) -> Result<(), Fail> {
 fn body_that_returns_nil(alloc: Global) -> Result<Body, AllocError>
     ensures parameters { IfOk result (λ body. body.parameters ≡ 0) }
     ensures function { IfOk result (λ body. body.function.0 ≡ 0) }
+    ensures literals { IfOk result (λ body. HasLiterals 1 body.lines) }
+    ensures lines { IfOk result (λ body. length body.lines ≤ 4096) }
+    ensures variables { IfOk result (λ body. length body.variables ≤ 1024) }
 {
     let label = Label::automatic(alloc, 0)?;
     let instr = Instr::Return(Expr::Plain(Simple::Lit(Literal::Nil)));
@@ -112,6 +116,9 @@ fn a_body_is_refused(rt: HostRuntime) -> Result<(), Fail> {
 fn program_of(alloc: Global, body: Body) -> Result<Program, AllocError>
     requires parameters { body.parameters ≡ 0 }
     requires function { body.function.0 ≡ 0 }
+    requires literals { HasLiterals 1 body.lines }
+    requires lines { length body.lines ≤ 4096 }
+    requires variables { length body.variables ≤ 1024 }
 {
     let name = Label::from_bytes(Vec::from_slice(alloc, b"base")?);
     let mut versions = List::new(alloc);
@@ -138,6 +145,10 @@ fn traps_have_their_numbers(rt: HostRuntime) {
         (Trap::BadType, 1),
         (Trap::Overflow, 2),
         (Trap::ZeroDivisor, 3),
+        (Trap::Bounds, 4),
+        (Trap::NotFunction, 5),
+        (Trap::ArgCount, 6),
+        (Trap::HeapFull, 7),
         (Trap::InputEnd, 8),
         (Trap::OutputFull, 9),
     ] {
@@ -157,5 +168,7 @@ fn names_are_numbered_in_the_order_of_first_mention(rt: HostRuntime) -> Result<(
         );
     }
     assert_eq!(rt; names.len(), 3);
+    assert_eq!(rt; names.place(b"ab"), Some(2));
+    assert_eq!(rt; names.place(b"abc"), None);
     Ok(())
 }

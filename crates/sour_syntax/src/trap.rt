@@ -10,6 +10,14 @@ pub enum Trap {
     Overflow,
     /// A number was to be divided by 0.
     ZeroDivisor,
+    /// An index is outside an array, or the length of an array is negative.
+    Bounds,
+    /// What is called is no function.
+    NotFunction,
+    /// A function is called with too few or too many arguments.
+    ArgCount,
+    /// The arrays would have more than 4,194,304 cells together.
+    HeapFull,
     /// No value of the input is left to read.
     InputEnd,
     /// The output would pass its limit of 1,048,576 bytes.
@@ -25,6 +33,10 @@ impl Trap {
             Trap::BadType => 1,
             Trap::Overflow => 2,
             Trap::ZeroDivisor => 3,
+            Trap::Bounds => 4,
+            Trap::NotFunction => 5,
+            Trap::ArgCount => 6,
+            Trap::HeapFull => 7,
             Trap::InputEnd => 8,
             Trap::OutputFull => 9,
         }

@@ -31,3 +31,15 @@ pub front-end : (a b c d : Option (List ℕ)) (number : ℕ) (output end : List 
     → Appends a b (head number) → Appends b c output → AppendsFront c d (end ++ 10 ∷ []) → AppendsFront a d (block number output end)
 front-end a b c d number output end first second part =
     AppendsFront-behind a c d (head number ++ output) (end ++ 10 ∷ []) (Appends-trans a b c (head number) output first second) part
+
+-- a part of the second of three pieces, behind the first
+pub front-second : (a b c : Option (List ℕ)) (first second third : List ℕ)
+    → Appends a b first → AppendsFront b c second → AppendsFront a c (first ++ second ++ third)
+front-second a b c first second third written part =
+    AppendsFront-longer a c (first ++ second) third (AppendsFront-behind a b c first second written part)
+
+-- and a part of the third, behind both
+pub front-third : (a b c d : Option (List ℕ)) (first second third : List ℕ)
+    → Appends a b first → Appends b c second → AppendsFront c d third → AppendsFront a d (first ++ second ++ third)
+front-third a b c d first second third written also part =
+    AppendsFront-behind a c d (first ++ second) third (Appends-trans a b c first second written also) part

@@ -50,7 +50,7 @@ some_blocks program (input ∷ inputs) number budget =
     let rest = some_blocks program inputs (number + 1) budget in (
       memory ∷ rest.0,
       _,
-      (_, rest.1, refl, inr (record { steps = 0; ends_so = refl; written = refl }), rest.2),
+      (_, rest.1, refl, inr (record { steps = 0; within = omega arith; ends_so = refl; written = refl }), rest.2),
     )
 
 -- what was written so far: the blocks of these inputs

@@ -1,5 +1,5 @@
 -- Numbers among the words.
-use Rattle.std.proofs.Common.{◌≡◌, ◌↔◌, ◌≤◌, ◌<◌, ◌^◌, ◌⊎◌, ℕ, true, List, [], ◌∷◌, Option, Some, None, length, ap, sym, ◌∙◌, subst, inl, inr, arith, get_or, codes}
+use Rattle.std.proofs.Common.{◌≡◌, ◌↔◌, ◌≤◌, ◌<◌, ◌^◌, ℕ, true, List, [], ◌∷◌, Option, Some, None, length, ap, sym, ◌∙◌, subst, inl, inr, arith, get_or, codes}
 use Rattle.std.specs.Char.{is_ascii_digit}
 use Rattle.std.specs.List.{AllPass}
 use Rattle.std.proofs.lemmas.List.Elements.{All-head, All-tail, All-cons}
@@ -8,7 +8,7 @@ use Rattle.std.specs.Str.Parse.{AllDigits, digits_value}
 use Rattle.std.proofs.lemmas.Str.Parse.{digits_value_short, numerals_by_value, tells_digits}
 use Rattle.sour_tokens.specs.Token.{IsDigits}
 use Rattle.sour_reader.proofs.Digits.{AllDigits-from_token}
-use Rattle.sourir.specs.Answer.{WritesNumber, IsBudget, AskByDefault, AskByNumber, AskForRun, default_budget}
+use Rattle.sourir.specs.Answer.{WritesNumber, IsBudget, AskForRun}
 
 -- eight digits write a number of less than 64 bits
 short-fits : (word : List ℕ) → IsDigits word → length word ≤ 8 → digits_value 10 word < 2 ^ 64

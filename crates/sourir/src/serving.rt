@@ -49,7 +49,7 @@ pub fn write_blocks<K: Sink>(alloc: Global, sink: &mut K, job: &Job, budget: u64
     for (place, input) in job.inputs.as_slice().iter().enumerate() {
         let number = place as u64 + 1;
         let report = run_input(alloc, &job.program, input.as_slice(), number, budget);
-        let Ok(()) = write_block(sink, &report) else {
+        let Ok(()) = write_block(sink, &job.program, &report) else {
             return SINK_FAILED;
         };
         tally.count(report.end);

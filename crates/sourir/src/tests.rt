@@ -1,3 +1,7 @@
+mod arrays;
+mod calls;
+mod output;
+
 use crate::program::sourir;
 use sour_ports::{MemorySink, MemorySource};
 use std::alloc::{AllocError, Global};
@@ -221,6 +225,9 @@ fn texts_of_another_form_are_refused(rt: HostRuntime) -> Result<(), Fail> {
         "fun main()\nver base\n_1: stop\nend\n",
         "fun main()\nver base\nbranch true a\na: stop\nend\n",
         "fun main()\nver base\nstop\nend\ninput\n",
+        "fun main()\nver base\narray x[1]\nprint x[0] == x\nstop\nend\n",
+        "fun main()\nver base\narray x = [1,]\nstop\nend\n",
+        "fun main()\nver base\ncall main()\nstop\nend\n",
     ] {
         expect(
             &rt,

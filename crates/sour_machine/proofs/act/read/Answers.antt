@@ -8,8 +8,8 @@ pub returns-in-Some-clause-comes : goal.returns-in-Some-clause-comes
 returns-in-Some-clause-comes c =
     let old = c.args.moment.now in
     let value = Some (Plain c.in-Some.literal.now) in
-    ComesTo-going (Read c.args.x) ((old.place + 1) ∷ []) old.env _ old.end c.requires.going (record {
+    ComesTo-going (Read c.args.x) ((old.frame.place + 1) ∷ []) old.frame.env _ old.end c.requires.going (record {
       place = (0, omega arith, refl);
-      scope = scope_of-set old.env c.set.new.self c.args.x.0 value c.set.ensures;
-      row = row-set old.env c.set.new.self c.args.x.0 value c.set.ensures;
+      scope = scope_of-set old.frame.env c.set.new.self c.args.x.0 value c.set.ensures;
+      row = row-set old.frame.env c.set.new.self c.args.x.0 value c.set.ensures;
     })

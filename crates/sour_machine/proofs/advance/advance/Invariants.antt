@@ -1,8 +1,8 @@
-use Rattle.std.proofs.Common.{◌≢◌, ◌≤◌, true, length}
+use Rattle.std.proofs.Common.{◌≢◌, ◌≤◌, true}
 use Rattle.sour_machine.specs.declared.report.End.TheVariants.{Memory}
 use Rattle.sour_machine.specs.Moment.{run_at, Stands}
 use Rattle.sour_machine.specs.Run.{GoesOn}
-use Rattle.sour_machine.proofs.Measure.{before}
+use Rattle.sour_machine.proofs.Measure.{turns_before}
 use Rattle.sour_machine.proofs.advance.advance.Given as goal
 
 abbrev pub invariant-loop-moment : goal.invariant-loop-moment
@@ -14,4 +14,4 @@ invariant-loop-moment l = record {
 }
 
 abbrev pub decreases-loop-moment : goal.decreases-loop-moment
-decreases-loop-moment l = before l.budget (length l.lines) l.moment
+decreases-loop-moment l = turns_before l.budget l.moment

@@ -1,4 +1,4 @@
-use Rattle.sour_machine.proofs.Evaluations.{divided-checked}
+use Rattle.sour_machine.proofs.Operations.{divided-checked}
 use Rattle.sour_machine.proofs.arithmetic.divide.Goals as goal
 
 pub returns : goal.returns

@@ -1,4 +1,4 @@
-use Rattle.sour_machine.proofs.Evaluations.{divided-left_over}
+use Rattle.sour_machine.proofs.Operations.{divided-left_over}
 use Rattle.sour_machine.proofs.arithmetic.left_over.Goals as goal
 
 pub returns : goal.returns

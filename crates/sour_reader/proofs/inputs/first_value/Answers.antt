@@ -15,11 +15,11 @@ returns-in-Some-clause-found c =
     let parts = map_parts spelling c.args.tokens.now (take c.operand_length-count.result c.args.tokens.now) (drop c.operand_length-count.result c.args.tokens.now) c.operand_length-count.result refl refl in
     let within : c.operand_length-count.result ≤ length c.args.tokens.now = omega arith in
     let count : length (map spelling (take c.operand_length-count.result c.args.tokens.now)) ≡ operand_length (map spelling c.args.tokens.now) = length-map (take c.operand_length-count.result c.args.tokens.now) spelling ∙ take_length c.operand_length-count.result c.args.tokens.now within ∙ c.operand_length-count.ensures in
-    first_read (map spelling c.args.tokens.now) (map spelling (take c.operand_length-count.result c.args.tokens.now)) _ c.in-Some.value (some_made spelling c.args.tokens.now c.requires.some) parts count c.in-Some.ensures
+    first_read (map spelling c.args.tokens.now) (map spelling (take c.operand_length-count.result c.args.tokens.now)) _ c.in-Some.value (some_made spelling c.args.tokens.now c.requires.some) parts count (rw c.in-Some.is at c.in_ok-value.ensures)
 
 pub returns-in-None-clause-none : goal.returns-in-None-clause-none
 returns-in-None-clause-none c =
     let parts = map_parts spelling c.args.tokens.now (take c.operand_length-count.result c.args.tokens.now) (drop c.operand_length-count.result c.args.tokens.now) c.operand_length-count.result refl refl in
     let within : c.operand_length-count.result ≤ length c.args.tokens.now = omega arith in
     let count : length (map spelling (take c.operand_length-count.result c.args.tokens.now)) ≡ operand_length (map spelling c.args.tokens.now) = length-map (take c.operand_length-count.result c.args.tokens.now) spelling ∙ take_length c.operand_length-count.result c.args.tokens.now within ∙ c.operand_length-count.ensures in
-    first_other (map spelling c.args.tokens.now) (map spelling (take c.operand_length-count.result c.args.tokens.now)) _ (some_made spelling c.args.tokens.now c.requires.some) parts count c.in-None.ensures
+    first_other (map spelling c.args.tokens.now) (map spelling (take c.operand_length-count.result c.args.tokens.now)) _ (some_made spelling c.args.tokens.now c.requires.some) parts count (rw c.in-None.is at c.in_ok-value.ensures)

@@ -13,12 +13,12 @@ returns-then-len-ge-MAX_VALUES c =
 
 pub returns-in_default : goal.returns-in_default
 returns-in_default c =
-    no_value_more (map spelling c.args.tokens.now) c.loop-place.values (map spelling (drop c.loop-place.place c.args.tokens.now)) c.loop-place.invariant (rw (rest_whole c.loop-place.place c.args.tokens.now) at c.in_default.ensures.none)
+    no_value_more (map spelling c.args.tokens.now) c.loop-place.values (map spelling (drop c.loop-place.place c.args.tokens.now)) c.loop-place.invariant (rw (c.in_default.is, rest_whole c.loop-place.place c.args.tokens.now) at c.in_ok-value.ensures.none)
 
 pub loop-place-preserved : goal.loop-place-preserved
 loop-place-preserved c =
     rw (c.in_ok-push.ensures.ok, drop_plus c.loop-place.place c.in-Some.count c.args.tokens.now)
-    (values_more (map spelling c.args.tokens.now) c.loop-place.values (map spelling (drop c.loop-place.place c.args.tokens.now)) _ c.in-Some.value c.loop-place.invariant (omega arith) (rw (rest_whole c.loop-place.place c.args.tokens.now) at c.in-Some.ensures.found))
+    (values_more (map spelling c.args.tokens.now) c.loop-place.values (map spelling (drop c.loop-place.place c.args.tokens.now)) _ c.in-Some.value c.loop-place.invariant (omega arith) (rw (c.in-Some.is, rest_whole c.loop-place.place c.args.tokens.now) at c.in_ok-value.ensures.found))
 
 pub returns : goal.returns
 returns c =

@@ -1,16 +1,20 @@
-use Rattle.std.proofs.Common.{◌≡◌, ◌↔◌, Some, length, map, arith}
+use Rattle.std.proofs.Common.{◌≡◌, ◌↔◌, Some, IfOk, map, arith}
+use Rattle.std.proofs.lemmas.List.{length-map}
 use Rattle.sour_tokens.specs.Token.{spelling}
 use Rattle.sour_reader.specs.declared.raw.RawLiteral.{RawLiteral}
 use Rattle.sour_reader.specs.Literal.{SpellsLiteral}
 use Rattle.sour_reader.proofs.Lists.{at_one, at_two}
+use Rattle.sour_reader.proofs.Operands.{no_literal_sized}
 use Rattle.sour_reader.proofs.literal.literal_of.Goals as goal
 
-pub returns-in-len1 : goal.returns-in-len1
-returns-in-len1 c =
-    let one : length c.args.tokens.now ≡ 1 = omega arith in
-    at_one (λ tokens. (literal : RawLiteral) → SpellsLiteral literal (map spelling tokens) ↔ (c.token_literal.result ≡ Some literal)) _ c.args.tokens.now one c.token_literal.ensures
+pub returns-then-tokens-eq1 : goal.returns-then-tokens-eq1
+returns-then-tokens-eq1 c =
+    at_one (λ tokens. (literal : RawLiteral) → SpellsLiteral literal (map spelling tokens) ↔ (c.token_literal.result ≡ Some literal)) _ c.args.tokens.now (omega arith) c.token_literal.ensures
 
-pub returns-in-len2 : goal.returns-in-len2
-returns-in-len2 c =
-    let two : length c.args.tokens.now ≡ 2 = omega arith in
-    at_two (λ tokens. (literal : RawLiteral) → SpellsLiteral literal (map spelling tokens) ↔ (c.signed_literal.result ≡ Some literal)) _ _ c.args.tokens.now two c.signed_literal.ensures
+pub returns-then-tokens-ne2 : goal.returns-then-tokens-ne2
+returns-then-tokens-ne2 c =
+    no_literal_sized (map spelling c.args.tokens.now) (λ one. omega (arith, length-map c.args.tokens.now spelling)) (λ two. omega (arith, length-map c.args.tokens.now spelling))
+
+pub returns : goal.returns
+returns c =
+    at_two (λ tokens. IfOk c.paired_literal.result (λ found. (literal : RawLiteral) → SpellsLiteral literal (map spelling tokens) ↔ (found ≡ Some literal))) _ _ c.args.tokens.now (omega arith) c.paired_literal.ensures

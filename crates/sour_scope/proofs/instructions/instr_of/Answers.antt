@@ -1,21 +1,17 @@
-use Rattle.sour_reader.specs.Mentions.{expr_names}
+use Rattle.std.proofs.Common.{ap, ◌∙◌}
+use Rattle.sour_syntax.specs.declared.literal.VarId.{VarId}
+use Rattle.sour_syntax.specs.declared.instruction.Instr.TheVariants.{ArrayList}
+use Rattle.sour_reader.specs.Mentions.{each_names, with_names}
 use Rattle.sour_scope.specs.Numbered.{number_of}
 use Rattle.sour_scope.proofs.NameLaws.{made_later}
 use Rattle.sour_scope.proofs.instructions.instr_of.Goals as goal
 
-pub returns-in_ok-expr_of-in-Var-clause-instr : goal.returns-in_ok-expr_of-in-Var-clause-instr
-returns-in_ok-expr_of-in-Var-clause-instr c = λ more.
+pub returns-in_ok-each_of-in-ArrayList-clause-instr :
+    goal.returns-in_ok-each_of-in-ArrayList-clause-instr
+returns-in_ok-each_of-in-ArrayList-clause-instr c = λ more.
     let x =
-    made_later (λ names. number_of names c.in-Var.name) _ _ (expr_names c.in-Var.value) c.in_ok-x-in-Var.x
-    c.in_ok-expr_of-in-Var.ensures.names c.in_ok-x-in-Var.ensures.number more in
-    let value = c.in_ok-expr_of-in-Var.ensures.expr more in
-    rw c.in-Var.is (cc)
-
-pub returns-in_ok-expr_of-in-Assign-clause-instr :
-    goal.returns-in_ok-expr_of-in-Assign-clause-instr
-returns-in_ok-expr_of-in-Assign-clause-instr c = λ more.
-    let x =
-    made_later (λ names. number_of names c.in-Assign.name) _ _ (expr_names c.in-Assign.value) c.in_ok-x-in-Assign.x
-    c.in_ok-expr_of-in-Assign.ensures.names c.in_ok-x-in-Assign.ensures.number more in
-    let value = c.in_ok-expr_of-in-Assign.ensures.expr more in
-    rw c.in-Assign.is (cc)
+    made_later (λ names. number_of names c.in-ArrayList.name) _ _ (each_names c.as_slice.result.now) c.in_ok-x-in-ArrayList.x
+    c.in_ok-each_of-in-ArrayList.ensures.names c.in_ok-x-in-ArrayList.ensures.number more in
+    let values = rw c.as_slice.ensures at (c.in_ok-each_of-in-ArrayList.ensures.each more) in
+    rw c.in-ArrayList.is
+    (ap (λ (x : VarId). ArrayList x c.in_ok-each_of-in-ArrayList.field-0) x ∙ ap (ArrayList (number_of (with_names c.each_of.new.names more) c.in-ArrayList.name)) values)

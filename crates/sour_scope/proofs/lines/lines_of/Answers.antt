@@ -1,7 +1,7 @@
 use Rattle.std.proofs.Common.{◌≡◌, [], refl, sym, ap, ◌∙◌, length, take, arith}
 use Rattle.std.proofs.lemmas.List.{take_all, length-take-le}
 use Rattle.sour_scope.specs.Numbered.{label_of, lines_of}
-use Rattle.sour_scope.proofs.ListLaws.{take_next}
+use Rattle.sour_syntax.proofs.Everywhere.{take_next}
 use Rattle.sour_scope.proofs.LineLaws.{lines_more}
 use Rattle.sour_scope.proofs.lines.lines_of.Goals as goal
 
@@ -17,10 +17,10 @@ loop-place-preserved c =
     let place : length (take c.loop-place.place c.args.raw.now) ≡ c.loop-place.place = length-take-le c.loop-place.place c.args.raw.now (omega arith) in record {
       made =
           rw (take_next c.args.raw.now c.loop-place.place line (omega arith) c.index-raw-place.is, c.in_ok-push.ensures.ok)
-          (lines_more _ _ _ _ _ line _ _ c.loop-place.invariant.made (c.in_ok-label.ensures ∙ ap (λ at. label_of at line.label) (sym place)) c.in_ok-instr.ensures.names c.in_ok-instr.ensures.instr);
+          (lines_more _ _ _ _ _ _ line _ _ c.loop-place.invariant.made (c.in_ok-label.ensures ∙ ap (λ at. label_of at line.label) (sym place)) c.in_ok-instr.ensures.names c.in_ok-instr.ensures.instr);
       few = omega (arith, c.in_ok-instr.ensures.within, c.loop-place.invariant.few);
     }
 
 pub returns-clause-lines : goal.returns-clause-lines
 returns-clause-lines c =
-    c.loop-place.invariant.made.lines_are [] ∙ ap (lines_of c.loop-place.names 0) (take_all c.loop-place.place c.args.raw.now (omega arith))
+    c.loop-place.invariant.made.lines_are [] ∙ ap (lines_of c.args.functions.now c.loop-place.names 0) (take_all c.loop-place.place c.args.raw.now (omega arith))

@@ -4,6 +4,6 @@ use Rattle.sour_scope.proofs.lines.lines_of.Given as goal
 
 abbrev pub invariant-loop-place : goal.invariant-loop-place
 invariant-loop-place l = record {
-  made : LinesSoFar l.fn.names (take l.place l.raw) l.names l.lines;
-  few : length l.names ≤ 255 + 3 * l.place;
+  made : LinesSoFar l.functions l.fn.names (take l.place l.raw) l.names l.lines;
+  few : length l.names ≤ 255 + 2049 * l.place;
 }

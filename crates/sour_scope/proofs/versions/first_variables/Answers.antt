@@ -1,6 +1,6 @@
 use Rattle.std.proofs.Common.{[], ◌∷◌, take, ap, ◌∙◌, arith}
 use Rattle.sour_reader.specs.Mentions.{with_name}
-use Rattle.sour_scope.proofs.ListLaws.{take_next}
+use Rattle.sour_syntax.proofs.Everywhere.{take_next}
 use Rattle.sour_scope.proofs.NameLaws.{with_names-append}
 use Rattle.sour_scope.proofs.versions.first_variables.Goals as goal
 

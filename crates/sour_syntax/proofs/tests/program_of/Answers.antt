@@ -1,4 +1,4 @@
-use Rattle.std.proofs.Common.{◌≡◌, List, [], ◌∷◌, ◌++◌, refl, sym, ap, ◌∙◌, subst}
+use Rattle.std.proofs.Common.{◌≡◌, List, [], ◌∷◌, ◌++◌, sym, ap, ◌∙◌, subst}
 use Rattle.sour_syntax.specs.declared.program.Function.{Function}
 use Rattle.sour_syntax.specs.declared.program.Version.{Version}
 use Rattle.sour_syntax.specs.Body.{IsBody}
@@ -13,4 +13,4 @@ of_functions-requires c =
     let versions : c.push.new.self ≡ version ∷ [] = c.in_ok-push.ensures.ok ∙ ap (λ (before : List Version). before ++ version ∷ []) c.new-versions.ensures in
     let functions : c.push-2.new.self ≡ function ∷ [] = c.in_ok-push-2.ensures.ok ∙ ap (λ (before : List Function). before ++ function ∷ []) c.new-functions.ensures in
     subst (λ (all : List Function). IsProgram (record { functions = all; main = record { 0 = 0 } })) (sym functions)
-    (IsProgram-one function version (c.from_bytes-name-2.ensures ∙ c.in_ok-from_slice-2.ensures.items) versions (subst IsBody c.body.view_is c.body.invariant.0) c.requires.function c.requires.parameters)
+    (IsProgram-one function version (c.from_bytes-name-2.ensures ∙ c.in_ok-from_slice-2.ensures.items) versions (subst IsBody c.body.view_is c.body.invariant.0) c.requires.function c.requires.parameters c.requires.literals c.requires.lines c.requires.variables)

@@ -1,4 +1,3 @@
-use Rattle.std.proofs.Common.{◌≡◌, ◌∙◌, sym, ap, ℕ, Option, Some, None}
 use Rattle.sourir.proofs.WordLemmas.{budget-some, budget-none}
 use Rattle.sourir.proofs.budget.budget_in.Goals as goal
 

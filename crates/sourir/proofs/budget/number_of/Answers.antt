@@ -1,4 +1,3 @@
-use Rattle.std.proofs.Common.{◌≡◌, refl}
 use Rattle.sour_reader.proofs.Digits.{parse_from_token}
 use Rattle.sour_tokens.specs.Token.{IsDigits}
 use Rattle.sourir.proofs.WordLemmas.{WritesNumber-read}

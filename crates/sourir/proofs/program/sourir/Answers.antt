@@ -1,4 +1,4 @@
-use Rattle.std.proofs.Common.{◌≤◌, refl, inl, inr, arith}
+use Rattle.std.proofs.Common.{refl, inl, inr}
 use Rattle.sourir.specs.Answer.{unknown_words}
 use Rattle.sourir.proofs.WordLemmas.{asked-within, none-some}
 use Rattle.sourir.proofs.program.sourir.Goals as goal

@@ -21,7 +21,7 @@ returns-in_default g c =
     let held = c.loop-place.invariant in
     let within : c.loop-place.place < length inputs = omega (arith, ap length held.items) in
     let failed = Wrote-failed program inputs c.as_slice.result.now c.loop-place.place (c.loop-place.place + 1) c.args.budget _ _ _ c.loop-place.tally (end_kind report.end) (report_block program report) within
-    (read _ inputs c.loop-place.place _ _ held.items c.input-item.is c.as_slice.ensures) refl held.wrote c.run_input-report.ensures (c.in_default.ensures.front program) in
+    (read _ inputs c.loop-place.place _ _ held.items c.input-item.is c.as_slice.ensures) refl held.wrote c.run_input-report.ensures (rw c.deref.ensures at c.in_default.ensures.front) in
     (failed.ends, failed.bytes, failed.shows, inr (refl, HasCause-earlier held.count c.in_default.ensures.cause, failed.front))
 
 pub loop-place-preserved : goal.loop-place-preserved
@@ -34,7 +34,7 @@ loop-place-preserved g c =
     record {
       items = held.items;
       wrote = Wrote-more program inputs c.as_slice.result.now c.loop-place.place (c.loop-place.place + 1) c.args.budget _ _ _ c.loop-place.tally c.count.new.self (end_kind report.end) (report_block program report) within
-          (read _ inputs c.loop-place.place _ _ held.items c.input-item.is c.as_slice.ensures) refl held.wrote c.run_input-report.ensures (c.in-Ok.ensures.all program) c.count.ensures;
+          (read _ inputs c.loop-place.place _ _ held.items c.input-item.is c.as_slice.ensures) refl held.wrote c.run_input-report.ensures (rw c.deref.ensures at c.in-Ok.ensures.all) c.count.ensures;
       count = omega (arith, held.count, c.write_block.ensures.count);
     }
 

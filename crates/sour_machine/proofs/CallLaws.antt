@@ -1,0 +1,185 @@
+-- What a call or a return leaves of a run.
+use Rattle.std.proofs.Common.{◌≡◌, ℕ, suc, ◌+◌, ◌<◌, ◌≤◌, List, [], ◌∷◌, true, Option, None, Some, get_or, length, drop, Contains, refl, sym, ap, ◌∙◌, subst, length-append, arith}
+use Rattle.std.specs.List.{AllByRecursion, slice_get}
+use Rattle.std.specs.Option.{option_map}
+use Rattle.sour_syntax.specs.declared.expression.Expr.{Expr}
+use Rattle.sour_syntax.specs.declared.expression.Simple.{Simple}
+use Rattle.sour_syntax.specs.declared.instruction.Instr.{Instr}
+use Rattle.sour_syntax.specs.declared.instruction.Instr.TheVariants.{Var, Drop, Assign, ArrayLength, ArrayList, Store, Print, Read, Branch, Goto, Call, Return, Stop}
+use Rattle.sour_syntax.specs.declared.instruction.Line.{Line}
+use Rattle.sour_syntax.specs.declared.literal.Literal.{Literal}
+use Rattle.sour_syntax.specs.declared.literal.VarId.{VarId}
+use Rattle.sour_syntax.specs.declared.program.Version.{Version}
+use Rattle.sour_syntax.specs.BodyView.{BodyView}
+use Rattle.sour_syntax.specs.Labels.{LabelsDiffer, label_at}
+use Rattle.sour_syntax.specs.Program.{ProgramView}
+use Rattle.sour_syntax.specs.Scopes.{followers, scope_after}
+use Rattle.sour_syntax.specs.Terminator.{IsTerminator, EndsInTerminator}
+use Rattle.sour_syntax.proofs.LabelPlaces.{EndsInTerminator-next}
+use Rattle.sour_semantics.specs.Step.{body_of_version, version_of_code, body_of}
+use Rattle.sour_semantics.specs.Validity.{scope_of}
+use Rattle.sour_machine.specs.declared.frame.Waiting.{Waiting}
+use Rattle.sour_machine.specs.declared.moment.Moment.{Moment}
+use Rattle.sour_machine.specs.declared.report.End.{End}
+use Rattle.sour_machine.specs.declared.report.End.TheVariants.{Returned, Stopped, Trapped, Cut, Memory}
+use Rattle.sour_machine.specs.Frame.{code_of, frame_lines, StandsAtLine, StandsWaiting}
+use Rattle.sour_machine.specs.Instruction.{IsReady, ActsAs, IsCrossing, EntersOr, CrossesTo, StandsCrossing}
+use Rattle.sour_machine.specs.Moment.{state_at, run_at, Stands}
+use Rattle.sour_machine.specs.Run.{GoesOn, entered_by}
+use Rattle.sour_machine.proofs.FrameLaws.{All-append, frame_lines-are}
+use Rattle.sour_machine.proofs.Advances.{IsAt, IsAt-lines, IsLineAt-version, step-state_at, turns-always}
+use Rattle.sour_machine.proofs.Instructions.{turns_crossing}
+use Rattle.sour_machine.proofs.RunLaws.{entered-none, entered-one, GoesOn-one, GoesOn-on}
+
+-- the frame that called waits at its next line, and the path goes on to it with the result in the scope
+pub StandsWaiting-caller : (program : ProgramView) (old : Moment) (line : Line) (x : VarId) (callee : Simple) (es : List Expr) → line.instr ≡ Call x callee es → IsAt program old line
+    → x.0 < length old.frame.env → StandsAtLine program old.frame None → StandsWaiting program (record { frame = record old.frame { place = old.frame.place + 1 }; result = x })
+StandsWaiting-caller program old line x callee es is at there stands =
+    let all = frame_lines program old.frame in
+    let place = old.frame.place in
+    let own : all ≡ stands.version.body.lines = frame_lines-are program old.frame stands.version stands.runs in
+    let lines = stands.version.body.lines in
+    let Ends : Instr → Type 0 = λ instr. IsTerminator instr → ⊥ in
+    let goes_on : Ends line.instr = subst Ends (sym is) (λ no. no) in
+    let Found : List Line → Type 0 = λ lines. slice_get lines place ≡ Some line in
+    let Follows : Instr → Type 0 = λ instr. Contains (followers instr (label_at lines (place + 1))) (label_at lines (place + 1)) in
+    record {
+      at_line = record {
+        version = stands.version;
+        runs = stands.runs;
+        line = λ terminated. EndsInTerminator-next lines place line (subst Found own at.found) goes_on (stands.line terminated);
+        count = suc stands.count;
+        path = (
+          label_at lines place,
+          scope_of old.frame.env,
+          line,
+          drop (place + 1) lines,
+          stands.path,
+          IsLineAt-version program old line stands.version stands.runs at,
+          subst Follows (sym is) (0, omega arith, refl),
+          ap (λ instr. scope_after instr (scope_of old.frame.env)) (sym is),
+        );
+        row = stands.row;
+      };
+      place = there;
+    }
+
+entered-below : (program : ProgramView) (x : VarId) (old new : Moment) (end : End) → EntersOr program x old new end
+    → AllByRecursion (StandsWaiting program) old.below → StandsWaiting program (record { frame = record old.frame { place = old.frame.place + 1 }; result = x }) → AllByRecursion (StandsWaiting program) new.below
+entered-below program x old new Cut enters all caller =
+    let Each : List Waiting → Type 0 = AllByRecursion (StandsWaiting program) in
+    let waiting : Waiting = record { frame = record old.frame { place = old.frame.place + 1 }; result = x } in
+    subst Each (sym enters.below) (All-append (StandsWaiting program) old.below (waiting ∷ []) all (caller, tt {0}))
+entered-below program x old new (Returned value) enters all caller = absurd enters
+entered-below program x old new Stopped enters all caller = absurd enters
+entered-below program x old new (Trapped trap) enters all caller =
+    let Each : List Waiting → Type 0 = AllByRecursion (StandsWaiting program) in subst Each (sym enters.below) all
+entered-below program x old new Memory enters all caller = absurd enters
+
+entered-line : (program : ProgramView) (x : VarId) (old new : Moment) (end : End) → EntersOr program x old new end → end ≡ Cut → StandsAtLine program new.frame None
+entered-line program x old new Cut enters going = enters.stands
+entered-line program x old new (Returned value) enters going = cc
+entered-line program x old new Stopped enters going = cc
+entered-line program x old new (Trapped trap) enters going = cc
+entered-line program x old new Memory enters going = cc
+
+entered-calls : (program : ProgramView) (x : VarId) (old new : Moment) (end : End) → EntersOr program x old new end → new.calls ≤ old.calls + 1
+entered-calls program x old new Cut enters = omega (arith, enters.calls)
+entered-calls program x old new (Returned value) enters = absurd enters
+entered-calls program x old new Stopped enters = absurd enters
+entered-calls program x old new (Trapped trap) enters = omega (arith, enters.calls)
+entered-calls program x old new Memory enters = absurd enters
+
+-- one frame more was entered where there are more
+entered-counted : (program : ProgramView) (input : List Literal) (x : VarId) (old new : Moment) (end : End) → EntersOr program x old new end
+    → new.calls ≡ old.calls + entered_by (state_at program input old) (state_at program input new)
+entered-counted program input x old new Cut enters =
+    let waiting : Waiting = record { frame = record old.frame { place = old.frame.place + 1 }; result = x } in
+    let more : length new.below ≡ length old.below + 1 = ap length enters.below ∙ length-append old.below (waiting ∷ []) in
+    omega (arith, enters.calls, entered-one program input old new more)
+entered-counted program input x old new (Returned value) enters = absurd enters
+entered-counted program input x old new Stopped enters = absurd enters
+entered-counted program input x old new (Trapped trap) enters =
+    omega (arith, enters.calls, entered-none program input old new (omega (arith, ap length enters.below)))
+entered-counted program input x old new Memory enters = absurd enters
+
+-- what holds of a run behind a call or a return
+pub record Crossed (program : ProgramView) (input : List Literal) (old new : Moment) : Type 0 where
+  pub at_line : new.end ≡ Cut → StandsAtLine program new.frame None
+  pub below : AllByRecursion (StandsWaiting program) new.below
+  pub calls : new.calls ≤ old.calls + 1
+  pub counted : new.calls ≡ old.calls + entered_by (state_at program input old) (state_at program input new)
+
+crossed_by : (program : ProgramView) (input : List Literal) (old new : Moment) (line : Line) (instr : Instr) → line.instr ≡ instr → IsAt program old line → IsReady instr old.frame.env → CrossesTo program instr old new
+    → StandsAtLine program old.frame None → AllByRecursion (StandsWaiting program) old.below → Crossed program input old new
+crossed_by program input old new line (Var x e) is at ready crosses stands all = absurd crosses
+crossed_by program input old new line (Drop x) is at ready crosses stands all = absurd crosses
+crossed_by program input old new line (Assign x e) is at ready crosses stands all = absurd crosses
+crossed_by program input old new line (ArrayLength x e) is at ready crosses stands all = absurd crosses
+crossed_by program input old new line (ArrayList x es) is at ready crosses stands all = absurd crosses
+crossed_by program input old new line (Store x index e) is at ready crosses stands all = absurd crosses
+crossed_by program input old new line (Print e) is at ready crosses stands all = absurd crosses
+crossed_by program input old new line (Read x) is at ready crosses stands all = absurd crosses
+crossed_by program input old new line (Branch e a b) is at ready crosses stands all = absurd crosses
+crossed_by program input old new line (Goto a) is at ready crosses stands all = absurd crosses
+crossed_by program input old new line (Call x callee es) is at ready crosses stands all =
+    let caller = StandsWaiting-caller program old line x callee es is at ready.mentions.0 stands in
+    record {
+      at_line = entered-line program x old new new.end crosses;
+      below = entered-below program x old new new.end crosses all caller;
+      calls = entered-calls program x old new new.end crosses;
+      counted = entered-counted program input x old new new.end crosses;
+    }
+crossed_by program input old new line (Return e) is at ready crosses stands all = record {
+  at_line = crosses.top all;
+  below = crosses.below all;
+  calls = omega (arith, crosses.calls);
+  counted = omega (arith, crosses.calls, entered-none program input old new crosses.fewer);
+}
+crossed_by program input old new line Stop is at ready crosses stands all = absurd crosses
+
+pub Crossed-line : (program : ProgramView) (input : List Literal) (old new : Moment) (line : Line) → IsAt program old line → IsReady line.instr old.frame.env → CrossesTo program line.instr old new
+    → Stands program input old → Crossed program input old new
+Crossed-line program input old new line at ready crosses stands =
+    crossed_by program input old new line line.instr refl at ready crosses (stands.at_line at.going) stands.below
+
+-- the run stands at a line again
+pub Stands-crossed : (program : ProgramView) (input : List Literal) (old new : Moment) → Crossed program input old new → new.read ≡ old.read → new.turns ≡ old.turns + 1 → Stands program input old → Stands program input new
+Stands-crossed program input old new crossed reads turns stands = record {
+  within = omega (arith, reads, stands.within);
+  at_line = crossed.at_line;
+  below = crossed.below;
+  calls = omega (arith, crossed.calls, turns, stands.calls);
+}
+
+-- one call or return more
+pub GoesOn-crossed : (program : ProgramView) (input : List Literal) (old mid new : Moment) (line : Line) → IsAt program mid line → ActsAs program input line.instr mid new → Crossed program input mid new
+    → GoesOn (run_at program input true old) (run_at program input true mid) → GoesOn (run_at program input true old) (run_at program input true new)
+GoesOn-crossed program input old mid new line at acts crossed on =
+    GoesOn-on program input old mid new on (GoesOn-one program input mid new (step-state_at program input mid line at ∙ sym acts) crossed.counted)
+
+body_of-found : (found : Option Version) (body : BodyView) → Some body ≡ option_map (λ (version : Version). version.body) found → body_of_version found ≡ body
+body_of-found None body is = cc
+body_of-found (Some version) body is = let same : body ≡ version.body = cc in sym same
+
+-- the line that enters a frame or leaves one, as the code reads it
+pub record ReadsCrossing (program : ProgramView) (moment : Moment) (body : BodyView) (line : Line) : Type 0 where
+  pub at : IsAt program moment line
+  pub runs : body_of program (code_of moment.frame.code) ≡ body
+  pub crosses : IsCrossing line.instr
+
+pub ReadsCrossing-lines : (program : ProgramView) (start moment : Moment) (body : BodyView) (lines : List Line) (default : Line) (budget : ℕ) → moment.frame.code ≡ start.frame.code
+    → Some body ≡ option_map (λ (version : Version). version.body) (version_of_code program (code_of start.frame.code)) → lines ≡ body.lines → LabelsDiffer lines → EndsInTerminator lines
+    → StandsCrossing program budget moment → StandsAtLine program moment.frame None → ReadsCrossing program moment body (get_or lines moment.frame.place default)
+ReadsCrossing-lines program start moment body lines default budget code found lines_are differ terminated crossing stands =
+    let body_is : body_of program (code_of moment.frame.code) ≡ body =
+    ap (λ code. body_of program (code_of code)) code ∙ body_of-found (version_of_code program (code_of start.frame.code)) body found in
+    let at : IsAt program moment (get_or lines moment.frame.place default) = IsAt-lines program moment body lines default body_is lines_are differ terminated crossing.going stands in
+    let same_found : Some crossing.line ≡ Some (get_or lines moment.frame.place default) = sym crossing.found ∙ at.found in
+    let same : crossing.line ≡ get_or lines moment.frame.place default = cc in
+    let Crosses : Line → Type 0 = λ line. IsCrossing line.instr in
+    record { at = at; runs = body_is; crosses = subst Crosses same crossing.crosses }
+
+-- the turn that it takes
+pub turns-crossing : (program : ProgramView) (input : List Literal) (old new : Moment) (line : Line) → IsCrossing line.instr → ActsAs program input line.instr old new → new.turns ≡ old.turns + 1
+turns-crossing program input old new line crosses acts = turns-always program input old new line.instr acts (turns_crossing line.instr crosses)

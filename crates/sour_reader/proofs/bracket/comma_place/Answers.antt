@@ -1,0 +1,10 @@
+use Rattle.sour_tokens.specs.Token.{spelling}
+use Rattle.sour_reader.proofs.Commas.{parts_at}
+use Rattle.sour_reader.proofs.bracket.comma_place.Goals as goal
+
+pub returns-then-is_symbol : goal.returns-then-is_symbol
+returns-then-is_symbol c = record {
+  within = c.loop-place.invariant.within;
+  before = c.loop-place.invariant.before;
+  comma = λ within. parts_at spelling c.args.tokens.now c.loop-place.place _ within (c.is_symbol.ensures.0 c.if-is_symbol.true);
+}

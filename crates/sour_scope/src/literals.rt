@@ -1,0 +1,116 @@
+//! Whether the literals are those of a program with so many functions.
+
+ghost use Rattle.std.specs.Prelude.{◌↔◌, IsTrue};
+ghost use Rattle.std.specs.List.{AllByRecursion};
+ghost use Rattle.sour_syntax.specs.Literals.{IsLiteral, simple_literals, literals_of_expr, literals_of_each, literals_of};
+ghost use Rattle.sour_syntax.specs.Program.{HasLiterals};
+
+use sour_syntax::{Expr, Instr, Line, List, Literal, Simple};
+
+/// Whether a literal is one of a program with so many functions.
+fn literal_is_known(literal: Literal, functions: usize) -> bool
+    ensures { IsTrue result ↔ IsLiteral functions literal }
+{
+    match literal {
+        Literal::Number(_) => true,
+        Literal::Truth(_) => true,
+        Literal::Nil => true,
+        Literal::Function(function) => (function.0 as usize) < functions,
+    }
+}
+
+/// Whether the literal of an operand is, where it is one.
+fn operand_is_known(operand: Simple, functions: usize) -> bool
+    ensures { IsTrue result ↔ AllByRecursion (IsLiteral functions) (simple_literals operand) }
+{
+    match operand {
+        Simple::Lit(literal) => literal_is_known(literal, functions),
+        Simple::Var(_) => true,
+    }
+}
+
+/// Whether the literals of an expression are.
+fn expression_is_known(e: &Expr, functions: usize) -> bool
+    ensures { IsTrue result ↔ AllByRecursion (IsLiteral functions) (literals_of_expr e.now) }
+{
+    match e {
+        Expr::Plain(a) => operand_is_known(*a, functions),
+        Expr::Cell(_, index) => operand_is_known(*index, functions),
+        Expr::Length(a) => operand_is_known(*a, functions),
+        Expr::Not(a) => operand_is_known(*a, functions),
+        Expr::Binary(_, a, b) => operand_is_known(*a, functions) && operand_is_known(*b, functions),
+    }
+}
+
+/// Whether the literals of some expressions are.
+fn expressions_are_known(es: &[Expr], functions: usize) -> bool
+    ensures { IsTrue result ↔ AllByRecursion (IsLiteral functions) (literals_of_each es.now) }
+{
+    for e in es {
+        if !expression_is_known(e, functions) {
+            return false;
+        }
+    }
+    true
+}
+
+/// Whether the literals of an instruction are.
+fn instruction_is_known(instr: &Instr, functions: usize) -> bool
+    ensures { IsTrue result ↔ AllByRecursion (IsLiteral functions) (literals_of instr.now) }
+{
+    match instr {
+        Instr::Var(_, e) => expression_is_known(e, functions),
+        Instr::Drop(_) => true,
+        Instr::Assign(_, e) => expression_is_known(e, functions),
+        Instr::ArrayLength(_, e) => expression_is_known(e, functions),
+        Instr::ArrayList(_, es) => expressions_are_known(es.as_slice(), functions),
+        Instr::Store(_, index, e) => {
+            operand_is_known(*index, functions) && expression_is_known(e, functions)
+        }
+        Instr::Print(e) => expression_is_known(e, functions),
+        Instr::Read(_) => true,
+        Instr::Branch(e, _, _) => expression_is_known(e, functions),
+        Instr::Goto(_) => true,
+        Instr::Call(_, callee, es) => {
+            operand_is_known(*callee, functions) && expressions_are_known(es.as_slice(), functions)
+        }
+        Instr::Return(e) => expression_is_known(e, functions),
+        Instr::Stop => true,
+    }
+}
+
+/// Whether the literals of some lines are.
+pub(crate) fn lines_are_known(lines: &[Line], functions: usize) -> bool
+    ensures { IsTrue result ↔ HasLiterals functions lines.now }
+{
+    for line in lines {
+        if !instruction_is_known(&line.instr, functions) {
+            return false;
+        }
+    }
+    true
+}
+
+/// Whether the values of an input are.
+fn values_are_known(values: &[Literal], functions: usize) -> bool
+    ensures { IsTrue result ↔ AllByRecursion (IsLiteral functions) values.now }
+{
+    for value in values {
+        if !literal_is_known(*value, functions) {
+            return false;
+        }
+    }
+    true
+}
+
+/// Whether the values of some inputs are.
+pub(crate) fn inputs_are_known(inputs: &[List<Literal>], functions: usize) -> bool
+    ensures { IsTrue result ↔ AllByRecursion (AllByRecursion (IsLiteral functions)) inputs.now }
+{
+    for values in inputs {
+        if !values_are_known(values.as_slice(), functions) {
+            return false;
+        }
+    }
+    true
+}
