@@ -9,7 +9,7 @@ use Rattle.sour_semantics.specs.Run.{start, text_run, IsAtBudget, TextAt}
 use Rattle.laws_runs.proofs.StepTurns.{Near-step}
 
 -- what has ended stays, whatever the next state
-stays : (ending : Option Ending) (s t : State) → IsSome ending → unless_ended ending t s ≡ s
+pub stays : (ending : Option Ending) (s t : State) → IsSome ending → unless_ended ending t s ≡ s
 stays None s t ended = cc
 stays (Some ending) s t ended = refl
 

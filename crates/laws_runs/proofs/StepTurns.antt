@@ -1,7 +1,7 @@
 -- How many turns a step takes.
 use Rattle.std.proofs.Common.{◌+◌, ◌≤◌, ℕ, ℤ, pos, negsuc, Bool, true, false, List, [], ◌∷◌, ◌++◌, Option, None, Some, Result, Ok, Err, cond, ltb, length, nat_eq, replicate, slice_get, arith}
 use Rattle.sour_syntax.specs.declared.instruction.Instr.{Instr}
-use Rattle.sour_syntax.specs.declared.instruction.Instr.TheVariants.{Var, Drop, Assign, ArrayLength, ArrayList, Store, Print, Read, Branch, Goto, Call, Return, Stop}
+use Rattle.sour_syntax.specs.declared.instruction.Instr.TheVariants.{Var, Drop, Assign, ArrayLength, ArrayList, Store, Print, Read, Branch, Goto, Call, Return, Stop, Assume}
 use Rattle.sour_syntax.specs.declared.expression.Simple.TheVariants as simple
 use Rattle.sour_syntax.specs.declared.instruction.Line.{Line}
 use Rattle.sour_syntax.specs.declared.literal.ArrayId.{ArrayId}
@@ -11,13 +11,15 @@ use Rattle.sour_syntax.specs.declared.literal.Literal.TheVariants.{Nil}
 use Rattle.sour_syntax.specs.declared.literal.Value.{Value}
 use Rattle.sour_syntax.specs.declared.literal.Value.TheVariants.{Plain, Array}
 use Rattle.sour_syntax.specs.declared.literal.VarId.{VarId}
-use Rattle.sour_syntax.specs.declared.program.Version.{Version}
+use Rattle.sour_syntax.specs.declared.exit.Exit.{Exit}
 use Rattle.sour_syntax.specs.declared.trap.Trap.{Trap}
+use Rattle.sour_syntax.specs.BodyView.{BodyView}
+use Rattle.sour_syntax.specs.Exits.{continuations}
 use Rattle.sour_syntax.specs.Labels.{from_label, first_label}
 use Rattle.sour_syntax.specs.Program.{ProgramView}
 use Rattle.sour_semantics.specs.State.{Frame, FrameCode, State, Ending}
-use Rattle.sour_semantics.specs.Evaluation.{number_in, truth_in, function_in, operand, eval, eval_each}
-use Rattle.sour_semantics.specs.Step.{Choice, Entry, step, version_of_code, given, reads, makes, makes_empty, cell_limit, count_heap, writes, writes_array, writes_cell, prints, output_limit, takes_turn, branches, entered_code, enters, calls, returns, resumes, act, act_first, act_top, unless_ended, lines_of}
+use Rattle.sour_semantics.specs.Evaluation.{number_in, truth_in, function_in, operand, eval, eval_each, holds_each}
+use Rattle.sour_semantics.specs.Step.{Choice, Entry, step, body_at, given, reads, makes, makes_empty, cell_limit, count_heap, writes, writes_array, writes_cell, prints, output_limit, takes_turn, branches, entered_code, enters, calls, returns, resumes, landed_frames, leaves, is_anchor, takes_exit_turn, assumes, stays, act, act_first, act_top, unless_ended, lines_of}
 
 -- from s to t one turn was taken, or none
 pub record Near (s t : State) : Type 0 where
@@ -108,12 +110,12 @@ Near-branches None first second s = record { least = omega arith; most = omega a
 Near-branches (Some true) first second s = record { least = omega arith; most = omega arith }
 Near-branches (Some false) first second s = record { least = omega arith; most = omega arith }
 
--- a version is entered in the turn that was counted before it
-Near-enters : (x : VarId) (code : FrameCode) (version : Option Version) (values : List Value) (next : List ℕ) (s : State)
-    → Near s (enters x code version values next (takes_turn s))
+-- a body is entered in the turn that was counted before it
+Near-enters : (x : VarId) (code : FrameCode) (body : Option BodyView) (values : List Value) (next : List ℕ) (s : State)
+    → Near s (enters x code body values next (takes_turn s))
 Near-enters x code None values next s = record { least = omega arith; most = omega arith }
-Near-enters x code (Some version) values next s =
-    Near-cond s _ _ (nat_eq (length values) version.body.parameters)
+Near-enters x code (Some body) values next s =
+    Near-cond s _ _ (nat_eq (length values) body.parameters)
     (record { least = omega arith; most = omega arith })
     (record { least = omega arith; most = omega arith })
 
@@ -122,7 +124,22 @@ Near-calls : (program : ProgramView) (entry : Entry) (x : VarId) (f : Option Fun
     → Near s (calls program entry x f values next (takes_turn s))
 Near-calls program entry x None values next s = record { least = omega arith; most = omega arith }
 Near-calls program entry x (Some f) values next s =
-    Near-enters x (entered_code entry f) (version_of_code program (entered_code entry f)) values next s
+    Near-enters x (entered_code entry f) (body_at program (entered_code entry f)) values next s
+
+-- an exit takes a turn, but that of an anchor takes none
+Near-leaves : (program : ProgramView) (frame : Frame) (exit : Exit) (anchor : Bool) (s : State)
+    → Near s (leaves program frame exit (takes_exit_turn anchor s))
+Near-leaves program frame exit true s =
+    Near-given s (landed_frames program frame s.heap (continuations exit)) _ s (λ landed. record { least = omega arith; most = omega arith }) (Near-same s)
+Near-leaves program frame exit false s =
+    Near-given s (landed_frames program frame s.heap (continuations exit)) _ (takes_turn s)
+    (λ landed. record { least = omega arith; most = omega arith }) (Near-turn s)
+
+-- an assume takes the turn of its exit, if it leaves
+Near-assumes : (program : ProgramView) (frame : Frame) (exit : Exit) (next : List ℕ) (on : Bool) (s : State)
+    → Near s (assumes program frame exit next on s)
+Near-assumes program frame exit next true s = record { least = omega arith; most = omega arith }
+Near-assumes program frame exit next false s = Near-leaves program frame exit (is_anchor frame.label) s
 
 -- an instruction takes one turn or none
 Near-act : (program : ProgramView) (choice : Choice) (frame : Frame) (instr : Instr) (next : List ℕ) (s : State)
@@ -151,6 +168,9 @@ Near-act program choice frame (Call x callee es) next s =
 Near-act program choice frame (Return e) next s =
     Near-given s (eval frame.environment s.heap e) _ (takes_turn s) (λ value. Near-returns value s.frames s) (Near-turn s)
 Near-act program choice frame Stop next s = record { least = omega arith; most = omega arith }
+Near-act program choice frame (Assume es exit) next s =
+    Near-given s (holds_each frame.environment s.heap es) _ s
+    (λ holds. Near-assumes program frame exit next (stays choice frame.label holds) s) (Near-same s)
 
 -- the first of the lines that are left
 Near-act_first : (program : ProgramView) (choice : Choice) (frame : Frame) (lines : List Line) (s : State)

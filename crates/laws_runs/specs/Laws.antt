@@ -1,10 +1,13 @@
--- What holds of every run of a text, over the definitions alone.
-use Rattle.std.specs.Prelude.{◌≡◌, ◌+◌, ◌≤◌, ℕ, suc, List, None}
+-- What holds of every run, over the definitions alone.
+use Rattle.std.specs.Prelude.{◌≡◌, ◌+◌, ◌≤◌, ℕ, suc, List, None, length}
+use Rattle.std.specs.List.{AllByRecursion}
 use Rattle.sour_syntax.specs.declared.literal.Literal.{Literal}
 use Rattle.sour_syntax.specs.Program.{ProgramView, IsProgram}
 use Rattle.sour_semantics.specs.State.{State}
 use Rattle.sour_semantics.specs.Step.{Choice, step}
 use Rattle.sour_semantics.specs.Run.{text_run, IsAtBudget, TextAt}
+use Rattle.sour_semantics.specs.Validity.{IsValid, MayChoose}
+use Rattle.sour_semantics.specs.Agreement.{run_by}
 
 -- a step takes one turn or none
 abbrev pub TakesAtMostOneTurn : Type 0
@@ -27,7 +30,14 @@ abbrev pub AdvancesAdd : Type 0
 AdvancesAdd = (program : ProgramView) (a b : ℕ) (s t u v : State)
     → GoesOnBy program a s t → GoesOnBy program b t u → GoesOnBy program (a + b) s v → u ≡ v
 
--- no more steps than this follow one another without a turn, the last of them from a state that hasn't ended: 33 bodies of 4096 lines each, since an exit may lead through so many
+-- no more legal steps than this follow one another without a turn from a valid state, the last of them from a state that hasn't ended: 33 bodies of 4096 lines each, since anchors may lead through the 32 bodies of a bundle to a version of the text
 abbrev pub TurnsComeSoon : Type 0
-TurnsComeSoon = (program : ProgramView) (steps : ℕ) (s : State) → IsProgram program
+TurnsComeSoon = (program : ProgramView) (choices : List Choice) (last : Choice) (s : State) → IsProgram program
+    → IsValid program s → AllByRecursion (MayChoose program) choices → MayChoose program last
+    → (run_by program choices s).ending ≡ None → (step program last (run_by program choices s)).turns ≡ s.turns
+    → suc (length choices) ≤ 135168
+
+-- the same of the steps of a run that enters text versions alone and leaves only where a predicate is false
+abbrev pub TextTurnsComeSoon : Type 0
+TextTurnsComeSoon = (program : ProgramView) (steps : ℕ) (s : State) → IsProgram program → IsValid program s
     → (text_run program steps s).ending ≡ None → (text_run program (suc steps) s).turns ≡ s.turns → suc steps ≤ 135168

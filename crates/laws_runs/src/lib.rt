@@ -2,7 +2,7 @@
 //! definitions of `sour_semantics` alone.
 #![tactic(auto)]
 
-ghost use Rattle.laws_runs.specs.Laws.{TakesAtMostOneTurn, RestsOnce, AdvancesAdd, TurnsComeSoon};
+ghost use Rattle.laws_runs.specs.Laws.{TakesAtMostOneTurn, RestsOnce, AdvancesAdd, TurnsComeSoon, TextTurnsComeSoon};
 
 /// Turns never fall, and a step takes at most one.
 pub fn turns()
@@ -19,7 +19,13 @@ pub fn advances_add()
     ensures { AdvancesAdd }
 {}
 
-/// In a run of a checked program no more than 135,168 steps follow one another without a turn.
+/// In a run of a checked program no more than 135,168 steps follow one another without a turn, whatever
+/// they may choose.
 pub fn turns_come_soon()
     ensures { TurnsComeSoon }
+{}
+
+/// So it is in a run that enters text versions alone.
+pub fn text_turns_come_soon()
+    ensures { TextTurnsComeSoon }
 {}

@@ -7,19 +7,19 @@ use Rattle.std.proofs.lemmas.Option.{get_or_from_slice_get}
 use Rattle.sour_syntax.specs.declared.instruction.Instr.{Instr}
 use Rattle.sour_syntax.specs.declared.instruction.Line.{Line}
 use Rattle.sour_syntax.specs.declared.literal.Value.{Value}
-use Rattle.sour_syntax.specs.declared.program.Version.{Version}
 use Rattle.sour_syntax.specs.BodyView.{BodyView}
 use Rattle.sour_syntax.specs.Labels.{first_label}
+use Rattle.sour_syntax.specs.Exits.{continuations_of}
 use Rattle.sour_syntax.specs.Literals.{literals_of}
 use Rattle.sour_syntax.specs.Program.{ProgramView, IsProgram}
-use Rattle.sour_syntax.specs.Scopes.{Scope, scope_after, followers, first_scope, IsLineAt, HasScope, IsFine}
+use Rattle.sour_syntax.specs.Scopes.{Scope, scope_after, followers, first_scope, scope_with, IsLineAt, HasScope, IsFine}
+use Rattle.sour_syntax.proofs.NoExits.{All-from_label}
 use Rattle.sour_semantics.specs.State.{Environment, Frame, FrameCode}
-use Rattle.sour_semantics.specs.Step.{version_of_code, first_environment, entered_frame}
-use Rattle.sour_semantics.specs.Validity.{IsValue, IsKept, IsValidFrame, scope_of, scope_with}
+use Rattle.sour_semantics.specs.Step.{body_at, first_environment, entered_frame}
+use Rattle.sour_semantics.specs.Validity.{IsValue, IsKept, IsCode, IsValidFrame, scope_of}
 use Rattle.laws_validity.proofs.Lists.{AllByRecursion-weaker, AllByRecursion-append, AllByRecursion-set, AllByRecursion-replicate}
-use Rattle.laws_validity.proofs.Versions.{IsVersionOf, IsVersionOf-code}
+use Rattle.laws_validity.proofs.Bodies.{Leads, IsBodyOf, IsBodyOf-code}
 use Rattle.laws_validity.proofs.Values.{IsLiteralOf, IsKept-more}
-use Rattle.laws_validity.proofs.Reached.{All-from_label}
 
 -- a value put where there is one already leaves the same variables with values
 pub set-same : (scope : Scope) (place : ℕ) → slice_get scope place ≡ Some true → set scope place true ≡ scope
@@ -30,8 +30,9 @@ set-same scope place found =
 pub IsValidFrame-more : (program : ProgramView) (few many : ℕ) → few ≤ many → (frame : Frame) → IsValidFrame program few frame
     → IsValidFrame program many frame
 IsValidFrame-more program few many less frame valid = record {
-  version = valid.version;
+  body = valid.body;
   runs = valid.runs;
+  code = valid.code;
   count = valid.count;
   path = valid.path;
   values = AllByRecursion-weaker (IsKept (length program.functions) few) (IsKept (length program.functions) many)
@@ -51,6 +52,7 @@ pub record StandsBefore (program : ProgramView) (frame : Frame) (instr : Instr) 
   pub free : frame.waits ≡ None
   pub fine : IsFine instr (scope_of frame.environment)
   pub literals : AllByRecursion (IsLiteralOf program) (literals_of instr)
+  pub leads : AllByRecursion (Leads program frame.code) (continuations_of instr)
   pub onward : (arrays : ℕ) (label : List ℕ) (environment : Environment) (waits : Option ℕ) → Contains (followers instr next) label
       → scope_with waits (scope_of environment) ≡ scope_after instr (scope_of frame.environment)
       → AllByRecursion (IsKept (length program.functions) arrays) environment
@@ -62,22 +64,24 @@ free_scope waits scope free = ap (λ (waits : Option ℕ). scope_with waits scop
 
 -- a valid frame stands before its instruction
 pub StandsBefore-frame : (program : ProgramView) (arrays : ℕ) (frame : Frame) (line : Line) (rest : List Line) → IsProgram program
-    → (valid : IsValidFrame program arrays frame) → frame.waits ≡ None → IsLineAt valid.version.body frame.label line rest
+    → (valid : IsValidFrame program arrays frame) → frame.waits ≡ None → IsLineAt valid.body frame.label line rest
     → StandsBefore program frame line.instr (first_label rest)
 StandsBefore-frame program arrays frame line rest is valid free at =
-    let body : BodyView = valid.version.body in
-    let one : IsVersionOf (length program.functions) valid.version = IsVersionOf-code program frame.code valid.version is valid.runs in
+    let body : BodyView = valid.body in
+    let one : IsBodyOf program frame.code body = IsBodyOf-code program frame.code body is valid.code valid.runs in
     let HasPath : Scope → Type 0 = HasScope body valid.count frame.label in
     let path : HasScope body valid.count frame.label (scope_of frame.environment) =
     subst HasPath (free_scope frame.waits (scope_of frame.environment) free) valid.path in
     record {
       free = free;
-      fine = one.is.body.scopes.fine valid.count frame.label (scope_of frame.environment) line rest path at;
+      fine = one.is.scopes.fine valid.count frame.label (scope_of frame.environment) line rest path at;
       literals = All-from_label (λ (other : Line). AllByRecursion (IsLiteralOf program) (literals_of other.instr))
-          frame.label body.lines line rest one.is.literals at.stands;
+          frame.label body.lines line rest one.literals at.stands;
+      leads = one.leads valid.count frame.label (scope_of frame.environment) line rest path at;
       onward = λ arrays label environment waits follows scope values. record {
-        version = valid.version;
+        body = valid.body;
         runs = valid.runs;
+        code = valid.code;
         count = suc valid.count;
         path = (frame.label, scope_of frame.environment, line, rest, path, at, follows, scope);
         values = values;
@@ -98,20 +102,21 @@ pub IsValidFrame-resumed : (program : ProgramView) (arrays : ℕ) (frame : Frame
     → IsValidFrame program arrays frame → frame.waits ≡ Some variable → IsValue (length program.functions) arrays value
     → IsValidFrame program arrays (record frame { environment = set frame.environment variable (Some value); waits = None })
 IsValidFrame-resumed program arrays frame variable value valid waits is =
-    let HasPath : Scope → Type 0 = HasScope valid.version.body valid.count frame.label in
+    let HasPath : Scope → Type 0 = HasScope valid.body valid.count frame.label in
     let scope : scope_with frame.waits (scope_of frame.environment) ≡ scope_of (set frame.environment variable (Some value)) =
     ap (λ (waits : Option ℕ). scope_with waits (scope_of frame.environment)) waits
     ∙ sym (map-set is_some frame.environment variable (Some value)) in
     record {
-      version = valid.version;
+      body = valid.body;
       runs = valid.runs;
+      code = valid.code;
       count = valid.count;
       path = subst HasPath scope valid.path;
       values = AllByRecursion-set (IsKept (length program.functions) arrays) frame.environment variable (Some value) valid.values is;
     }
 
 -- no variable of a row without values is in scope
-scope_of-none : (count : ℕ) → scope_of (replicate count None) ≡ replicate count false
+pub scope_of-none : (count : ℕ) → scope_of (replicate count None) ≡ replicate count false
 scope_of-none zero = refl
 scope_of-none (suc count) = ap (λ (scope : Scope). false ∷ scope) (scope_of-none count)
 
@@ -135,17 +140,17 @@ are_kept functions arrays [] are = tt
 are_kept functions arrays (value ∷ values) are = (are.0, are_kept functions arrays values are.1)
 
 -- a frame that is entered with values for its parameters is valid
-pub IsValidFrame-entered : (program : ProgramView) (arrays : ℕ) (code : FrameCode) (version : Version) (values : List Value)
-    → version_of_code program code ≡ Some version → length values ≡ version.body.parameters
+pub IsValidFrame-entered : (program : ProgramView) (arrays : ℕ) (code : FrameCode) (body : BodyView) (values : List Value)
+    → body_at program code ≡ Some body → IsCode program code → length values ≡ body.parameters
     → AllByRecursion (IsValue (length program.functions) arrays) values
-    → IsValidFrame program arrays (entered_frame code version.body values)
-IsValidFrame-entered program arrays code version values runs same are =
-    let body : BodyView = version.body in
+    → IsValidFrame program arrays (entered_frame code body values)
+IsValidFrame-entered program arrays code body values runs fine same are =
     let Kept : Option Value → Type 0 = IsKept (length program.functions) arrays in
     let empty : ℕ = length body.variables - length values in
     record {
-      version = version;
+      body = body;
       runs = runs;
+      code = fine;
       count = 0;
       path = (refl, scope_of-first body values same);
       values = AllByRecursion-append Kept (map Some values) (replicate empty None) (are_kept (length program.functions) arrays values are)

@@ -1,5 +1,5 @@
 pub mod Lists
-pub mod Versions
+pub mod Bodies
 pub mod Values
 pub mod Heaps
 pub mod Reached
@@ -7,5 +7,6 @@ pub mod Frames
 pub mod States
 pub mod Arrays
 pub mod Calls
+pub mod Leaving
 pub mod Steps
 pub mod Runs

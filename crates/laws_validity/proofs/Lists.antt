@@ -1,7 +1,8 @@
 -- What holds of each element of a list.
-use Rattle.std.proofs.Common.{◌≡◌, ℕ, zero, suc, List, [], ◌∷◌, ◌++◌, Option, Some, set, replicate, subst}
+use Rattle.std.proofs.Common.{◌≡◌, ◌<◌, ℕ, zero, suc, List, [], ◌∷◌, ◌++◌, Option, Some, length, set, replicate, subst, arith}
 use Rattle.std.specs.Prelude.{IfSome}
 use Rattle.std.specs.List.{AllByRecursion, slice_get}
+use Rattle.std.proofs.lemmas.Option.{none-some}
 
 -- of each element holds what follows from what holds of it
 pub AllByRecursion-weaker : {A : Type 0} (P Q : A → Type 0) → ((x : A) → P x → Q x) → (xs : List A) → AllByRecursion P xs
@@ -47,3 +48,18 @@ AllByRecursion-set P (first ∷ xs) (suc place) x all holds = (all.0, AllByRecur
 pub AllByRecursion-replicate : {A : Type 0} (P : A → Type 0) (count : ℕ) (x : A) → P x → AllByRecursion P (replicate count x)
 AllByRecursion-replicate P zero x holds = tt
 AllByRecursion-replicate P (suc count) x holds = (holds, AllByRecursion-replicate P count x holds)
+
+-- what is found among the first elements is found among all
+pub slice_get-front : {A : Type 0} (xs ys : List A) (place : ℕ) (x : A) → slice_get xs place ≡ Some x
+    → slice_get (xs ++ ys) place ≡ Some x
+slice_get-front [] ys place x found = absurd (none-some x found)
+slice_get-front (first ∷ xs) ys zero x found = found
+slice_get-front (first ∷ xs) ys (suc place) x found = slice_get-front xs ys place x found
+
+-- what is found stands at a place of the list
+pub slice_get-within : {A : Type 0} (xs : List A) (place : ℕ) (x : A) → slice_get xs place ≡ Some x → place < length xs
+slice_get-within [] place x found = absurd (none-some x found)
+slice_get-within (first ∷ xs) zero x found = omega arith
+slice_get-within (first ∷ xs) (suc place) x found =
+    let within : place < length xs = slice_get-within xs place x found in
+    omega (arith, within)

@@ -5,7 +5,7 @@ use Rattle.std.specs.Str.{bytes_eq}
 use Rattle.std.proofs.lemmas.List.Elements.{All-from_recursion, All-contains, All-map}
 use Rattle.std.proofs.lemmas.Slice.Eq.{bytes_eq-Decides}
 use Rattle.sour_syntax.specs.declared.instruction.Instr.{Instr}
-use Rattle.sour_syntax.specs.declared.instruction.Instr.TheVariants.{Var, Drop, Assign, ArrayLength, ArrayList, Store, Print, Read, Branch, Goto, Call, Return, Stop}
+use Rattle.sour_syntax.specs.declared.instruction.Instr.TheVariants.{Var, Drop, Assign, ArrayLength, ArrayList, Store, Print, Read, Branch, Goto, Call, Return, Stop, Assume}
 use Rattle.sour_syntax.specs.declared.instruction.Line.{Line}
 use Rattle.sour_syntax.specs.Body.{IsBody}
 use Rattle.sour_syntax.specs.BodyView.{BodyView}
@@ -13,20 +13,7 @@ use Rattle.sour_syntax.specs.Jumps.{named_labels}
 use Rattle.sour_syntax.specs.Labels.{from_label, first_label, labels_of}
 use Rattle.sour_syntax.specs.Scopes.{Scope, followers, HasScope}
 use Rattle.sour_syntax.specs.Terminator.{IsTerminator, EndsInTerminator}
-
--- what holds of the first line and of the one found behind it holds of the one that is taken
-taken : (P : Line → Type 0) (test : Bool) (first : Line) (lines found : List Line) (line : Line) (rest : List Line) → P first
-    → (found ≡ line ∷ rest → P line) → cond test (first ∷ lines) found ≡ line ∷ rest → P line
-taken P true first lines found line rest holds inner stands = let same : first ≡ line = cc in subst P same holds
-taken P false first lines found line rest holds inner stands = inner stands
-
--- what holds of each line holds of the one at a label
-pub All-from_label : (P : Line → Type 0) (label : List ℕ) (lines : List Line) (line : Line) (rest : List Line)
-    → AllByRecursion P lines → from_label label lines ≡ line ∷ rest → P line
-All-from_label P label [] line rest all stands = cc
-All-from_label P label (first ∷ lines) line rest all stands =
-    taken P (bytes_eq first.label label) first lines (from_label label lines) line rest all.0
-    (All-from_label P label lines line rest all.1) stands
+use Rattle.sour_syntax.proofs.NoExits.{All-from_label}
 
 -- no line has this label
 abbrev HaveNot : List ℕ → List Line → Type 0
@@ -101,6 +88,7 @@ followed (Goto a) next label contains = inr contains
 followed (Call x callee es) next label contains = inl ((λ none. none), one next label contains)
 followed (Return e) next label contains = inr contains
 followed Stop next label contains = inr contains
+followed (Assume es exit) next label contains = inl ((λ none. none), one next label contains)
 
 -- there are lines from a label on to which a path leads
 pub reached : (body : BodyView) (count : ℕ) (label : List ℕ) (scope : Scope) → IsBody body → HasScope body count label scope

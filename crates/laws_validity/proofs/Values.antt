@@ -170,12 +170,22 @@ IfOk-eval program environment heap (expr.Not a) valid all literals =
 IfOk-eval program environment heap (expr.Binary operator a b) valid all literals =
     IfOk-applied (length program.functions) (length heap) operator (operand environment a) (operand environment b)
 
--- a value in front of others
-IfOk-in_front : (P : Value → Type 0) (first : Result Value Trap) (others : Result (List Value) Trap) → IfOk first P
-    → IfOk others (AllByRecursion P) → IfOk (in_front first others) (AllByRecursion P)
-IfOk-in_front P (Err trap) others is are = tt
-IfOk-in_front P (Ok value) (Err trap) is are = tt
-IfOk-in_front P (Ok value) (Ok values) is are = (is, are)
+-- what holds of what was evaluated as the one and as the other holds as both
+pub IfOk-both : {A : Type 0} (P Q : A → Type 0) (r : Result A Trap) → IfOk r P → IfOk r Q → IfOk r (λ (x : A). P x × Q x)
+IfOk-both P Q (Ok x) p q = (p, q)
+IfOk-both P Q (Err trap) p q = tt
+
+-- nothing is asked of what was evaluated
+pub IfOk-any : {A : Type 0} (r : Result A Trap) → IfOk r (λ (x : A). Unit {0})
+IfOk-any (Ok x) = tt
+IfOk-any (Err trap) = tt
+
+-- what comes in front of others, by what holds of the one, of the others and of all
+pub IfOk-in_front : {A : Type 0} (P : A → Type 0) (Q R : List A → Type 0) (first : Result A Trap) (others : Result (List A) Trap)
+    → ((x : A) (xs : List A) → P x → Q xs → R (x ∷ xs)) → IfOk first P → IfOk others Q → IfOk (in_front first others) R
+IfOk-in_front P Q R (Err trap) others join p q = tt
+IfOk-in_front P Q R (Ok x) (Err trap) join p q = tt
+IfOk-in_front P Q R (Ok x) (Ok xs) join p q = join x xs p q
 
 -- the values of some expressions
 pub IfOk-eval_each : (program : ProgramView) (environment : Environment) (heap : Heap) (es : List Expr) → IsValidHeap program heap
@@ -184,5 +194,6 @@ pub IfOk-eval_each : (program : ProgramView) (environment : Environment) (heap :
 IfOk-eval_each program environment heap [] valid all literals = tt
 IfOk-eval_each program environment heap (e ∷ es) valid all literals =
     let parts = AllByRecursion-parts (IsLiteralOf program) (literals_of_expr e) (literals_of_each es) literals in
-    IfOk-in_front (IsValueOf program heap) (eval environment heap e) (eval_each environment heap es)
+    IfOk-in_front (IsValueOf program heap) (AllByRecursion (IsValueOf program heap)) (AllByRecursion (IsValueOf program heap))
+    (eval environment heap e) (eval_each environment heap es) (λ value values is are. (is, are))
     (IfOk-eval program environment heap e valid all parts.0) (IfOk-eval_each program environment heap es valid all parts.1)

@@ -4,7 +4,7 @@
 
 ghost use Rattle.laws_validity.specs.Laws.{CallStartsValid, StartsValid, StaysValid, NeverGetsStuck};
 
-/// A run of any version, with values for its parameters, starts in a valid state.
+/// A run of any version or made body, with values for its parameters, starts in a valid state.
 pub fn call_start()
     ensures { CallStartsValid }
 {}
@@ -14,7 +14,7 @@ pub fn start()
     ensures { StartsValid }
 {}
 
-/// A step from a valid state gives a valid state.
+/// A step from a valid state gives a valid state, whatever it may choose.
 pub fn step()
     ensures { StaysValid }
 {}

@@ -1,41 +1,43 @@
 -- What the loop over the lines of a body keeps, and what its answers say.
-use Rattle.std.proofs.Common.{◌≡◌, ◌≢◌, ℕ, zero, suc, ◌+◌, ◌<◌, ◌≤◌, List, [], ◌∷◌, Bool, true, false, None, Some, get_or, length, drop, map, reverse, Contains, refl, sym, ap, ◌∙◌, subst, inr, arith}
+use Rattle.std.proofs.Common.{◌≡◌, ◌≢◌, ◌⊎◌, ℕ, zero, suc, ◌+◌, ◌<◌, ◌≤◌, List, [], ◌∷◌, Bool, true, false, None, Some, get_or, length, drop, map, reverse, Contains, refl, sym, ap, ◌∙◌, subst, inr, arith}
 use Rattle.std.specs.Prelude.{MatchBool}
 use Rattle.std.specs.List.{AllByRecursion, slice_get}
 use Rattle.std.proofs.lemmas.Option.{slice_get-get_or}
 use Rattle.sour_syntax.specs.declared.instruction.Instr.{Instr}
-use Rattle.sour_syntax.specs.declared.instruction.Instr.TheVariants.{Var, Drop, Assign, ArrayLength, ArrayList, Store, Print, Read, Branch, Goto, Call, Return, Stop}
+use Rattle.sour_syntax.specs.declared.instruction.Instr.TheVariants.{Var, Drop, Assign, ArrayLength, ArrayList, Store, Print, Read, Branch, Goto, Call, Return, Stop, Assume}
 use Rattle.sour_syntax.specs.declared.instruction.Line.{Line}
 use Rattle.sour_syntax.specs.declared.jump.Jump.{Jump}
 use Rattle.sour_syntax.specs.declared.literal.Literal.{Literal}
-use Rattle.sour_syntax.specs.declared.program.Version.{Version}
 use Rattle.sour_syntax.specs.BodyView.{BodyView}
+use Rattle.sour_syntax.specs.Exits.{continuations_of}
 use Rattle.sour_syntax.specs.Jumps.{GoesTo, GoTo}
-use Rattle.sour_syntax.specs.Labels.{LabelsDiffer, from_label, label_at}
+use Rattle.sour_syntax.specs.Labels.{LabelsDiffer, from_label, first_label, label_at}
 use Rattle.sour_syntax.specs.Scopes.{mentioned, followers, IsLineAt, HasScopes, MentionsItsVariables}
 use Rattle.sour_syntax.specs.Spread.{following}
+use Rattle.sour_syntax.specs.Targets.{IsNamed, Lands}
 use Rattle.sour_syntax.specs.Terminator.{EndsInTerminator}
-use Rattle.sour_syntax.specs.Program.{ProgramView}
+use Rattle.sour_syntax.specs.Program.{ProgramView, IsPlainName, IsProgram}
 use Rattle.sour_semantics.specs.State.{Environment, Frame, State, text}
-use Rattle.sour_semantics.specs.Step.{text_choice, body_of_version, version_of_code, body_of, act, step}
-use Rattle.sour_semantics.specs.Run.{start, TakesTurn}
+use Rattle.sour_semantics.specs.Step.{text_choice, body_or_empty, body_at, body_of, is_anchor, act, step}
+use Rattle.sour_semantics.specs.Run.{start}
 use Rattle.sour_semantics.specs.Validity.{scope_of}
 use Rattle.sour_semantics.proofs.Places.{step-at_place}
 use Rattle.sour_syntax.proofs.LabelPlaces.{from_label-first_label-drop, drop-slice_get, lt-EndsInTerminator}
 use Rattle.sour_syntax.proofs.Following.{following_within}
-use Rattle.sour_machine.specs.declared.frame.Waiting.{Waiting}
+use Rattle.sour_machine.specs.declared.activation.Waiting.{Waiting}
 use Rattle.sour_machine.specs.declared.moment.Moment.{Moment}
 use Rattle.sour_machine.specs.declared.report.End.{End}
 use Rattle.sour_machine.specs.declared.report.End.TheVariants.{Returned, Stopped, Trapped, Cut, Memory}
 use Rattle.sour_machine.specs.End.{ending_of, is_memory}
 use Rattle.sour_machine.specs.Frame.{code_of, frame_lines, frame_at, waiting_at, StandsAtLine, StandsWaiting}
-use Rattle.sour_machine.specs.Instruction.{IsReady, ActsAs, IsCrossing, GoesFurther, ComesTo, StaysInFrame, AlwaysTakesTurn, NeverTakesTurn, StandsCrossing}
+use Rattle.sour_machine.specs.Instruction.{IsReady, ActsAs, IsCrossing, LeadsOut, GoesFurther, ComesTo, StaysInFrame, AlwaysTakesTurn, StaysWithoutTurn, StandsCrossing}
 use Rattle.sour_machine.specs.Moment.{state_at, run_at, Stands}
-use Rattle.sour_machine.specs.Run.{GoesOn, IsAtTurns, TakesMemory, StandsWanting}
+use Rattle.sour_machine.specs.Run.{GoesOn, IsAtTurns, TakesMemory, StandsWanting, is_call, first_calls, top_calls}
+use Rattle.sour_machine.proofs.Checked.{IsTextBody-runs, plain-anchor}
 use Rattle.sour_machine.proofs.Scopes.{All-at}
 use Rattle.sour_machine.proofs.FrameLaws.{frame_lines-are}
 use Rattle.sour_machine.proofs.Jumps.{GoesTo-at, Contains-followers, All-Contains, Contains-one}
-use Rattle.sour_machine.proofs.Instructions.{turns_branch, turns_crossing}
+use Rattle.sour_machine.proofs.Instructions.{turns_branch, turns_crossing, crossing-stays, turns-out}
 use Rattle.sour_machine.proofs.Measure.{before, before-turn, before-line}
 use Rattle.sour_machine.proofs.RunLaws.{entered-none, GoesOn-one, GoesOn-on}
 
@@ -46,24 +48,35 @@ pub record IsAt (program : ProgramView) (moment : Moment) (line : Line) : Type 0
   pub ends : EndsInTerminator (frame_lines program moment.frame)
   pub within : moment.frame.place < length (frame_lines program moment.frame)
   pub found : slice_get (frame_lines program moment.frame) moment.frame.place ≡ Some line
+  pub plain : is_anchor (label_at (frame_lines program moment.frame) moment.frame.place) ≡ false
+
+-- no line of a version is an anchor
+plain-line : (program : ProgramView) (moment : Moment) (line : Line) (body : BodyView) → IsProgram program → body_at program (code_of moment.frame.code) ≡ Some body
+    → slice_get (frame_lines program moment.frame) moment.frame.place ≡ Some line → is_anchor (label_at (frame_lines program moment.frame) moment.frame.place) ≡ false
+plain-line program moment line body checked runs found =
+    let place = moment.frame.place in
+    let all = frame_lines program moment.frame in
+    let Found : List Line → Type 0 = λ lines. slice_get lines place ≡ Some line in
+    let Plain : Line → Type 0 = λ line. IsPlainName line.label in
+    let plain : IsPlainName line.label = All-at Plain body.lines place line (subst Found (frame_lines-are program moment.frame body runs) found) (IsTextBody-runs program moment.frame.code body checked runs).labels in
+    ap (λ lines. is_anchor (first_label lines)) (drop-slice_get all place line found) ∙ plain-anchor line.label plain
 
 -- the body that the top frame runs
-pub body_of-runs : (program : ProgramView) (moment : Moment) (version : Version) (body : BodyView) → version_of_code program (code_of moment.frame.code) ≡ Some version → version.body ≡ body
-    → body_of program (code_of moment.frame.code) ≡ body
-body_of-runs program moment version body runs is = ap body_of_version runs ∙ is
+pub body_of-runs : (program : ProgramView) (moment : Moment) (body : BodyView) → body_at program (code_of moment.frame.code) ≡ Some body → body_of program (code_of moment.frame.code) ≡ body
+body_of-runs program moment body runs = ap body_or_empty runs
 
 -- the line that the loop reads
-pub IsAt-lines : (program : ProgramView) (moment : Moment) (body : BodyView) (lines : List Line) (default : Line) → body_of program (code_of moment.frame.code) ≡ body → lines ≡ body.lines
+pub IsAt-lines : (program : ProgramView) (moment : Moment) (body : BodyView) (lines : List Line) (default : Line) → IsProgram program → body_of program (code_of moment.frame.code) ≡ body → lines ≡ body.lines
     → LabelsDiffer lines → EndsInTerminator lines → moment.end ≡ Cut → StandsAtLine program moment.frame None → IsAt program moment (get_or lines moment.frame.place default)
-IsAt-lines program moment body lines default body_is lines_are differ terminated going stands =
+IsAt-lines program moment body lines default checked body_is lines_are differ terminated going stands =
     let all = frame_lines program moment.frame in
     let place = moment.frame.place in
     let Differ : List Line → Type 0 = LabelsDiffer in
     let Ends : List Line → Type 0 = EndsInTerminator in
     let same : lines ≡ all = lines_are ∙ ap (λ (b : BodyView). b.lines) (sym body_is) in
-    let own : all ≡ stands.version.body.lines = frame_lines-are program moment.frame stands.version stands.runs in
-    let inside : place < length stands.version.body.lines = lt-EndsInTerminator stands.version.body.lines place (stands.line (subst Ends (same ∙ own) terminated)) in
-    let counts : length all ≡ length stands.version.body.lines = ap length own in
+    let own : all ≡ stands.body.lines = frame_lines-are program moment.frame stands.body stands.runs in
+    let inside : place < length stands.body.lines = lt-EndsInTerminator stands.body.lines place (stands.line (subst Ends (same ∙ own) terminated)) in
+    let counts : length all ≡ length stands.body.lines = ap length own in
     let within : place < length all = omega (arith, inside, counts) in
     let found : slice_get all place ≡ Some (get_or lines place default) =
     slice_get-get_or all place default within ∙ ap (λ it. Some (get_or it place default)) (sym same) in
@@ -73,6 +86,7 @@ IsAt-lines program moment body lines default body_is lines_are differ terminated
       ends = subst Ends same terminated;
       within = within;
       found = found;
+      plain = plain-line program moment (get_or lines place default) stands.body checked stands.runs found;
     }
 
 -- and where it goes by name
@@ -88,12 +102,12 @@ pub record Reads (program : ProgramView) (moment : Moment) (body : BodyView) (li
   pub runs : body_of program (code_of moment.frame.code) ≡ body
   pub goes : GoesTo (frame_lines program moment.frame) line.instr jump
 
-pub Reads-lines : (program : ProgramView) (start moment : Moment) (body : BodyView) (lines : List Line) (jumps : List Jump) (default : Line) (other : Jump) → moment.frame.code ≡ start.frame.code
-    → ((version : Version) × (version_of_code program (code_of start.frame.code) ≡ Some version) × (version.body ≡ body)) → lines ≡ body.lines → LabelsDiffer lines → EndsInTerminator lines
+pub Reads-lines : (program : ProgramView) (start moment : Moment) (body : BodyView) (lines : List Line) (jumps : List Jump) (default : Line) (other : Jump) → IsProgram program → moment.frame.code ≡ start.frame.code
+    → body_at program (code_of start.frame.code) ≡ Some body → lines ≡ body.lines → LabelsDiffer lines → EndsInTerminator lines
     → GoTo body.lines body.lines jumps → moment.end ≡ Cut → StandsAtLine program moment.frame None → Reads program moment body (get_or lines moment.frame.place default) (get_or jumps moment.frame.place other)
-Reads-lines program start moment body lines jumps default other code (version, runs, is) lines_are differ terminated go going stands =
-    let body_is : body_of program (code_of moment.frame.code) ≡ body = ap (λ code. body_of program (code_of code)) code ∙ body_of-runs program start version body runs is in
-    let at = IsAt-lines program moment body lines default body_is lines_are differ terminated going stands in
+Reads-lines program start moment body lines jumps default other checked code runs lines_are differ terminated go going stands =
+    let body_is : body_of program (code_of moment.frame.code) ≡ body = ap (λ code. body_of program (code_of code)) code ∙ body_of-runs program start body runs in
+    let at = IsAt-lines program moment body lines default checked body_is lines_are differ terminated going stands in
     record {
       at = at;
       runs = body_is;
@@ -106,19 +120,19 @@ pub from_label-place : (program : ProgramView) (moment : Moment) (line : Line) �
 from_label-place program moment line at =
     from_label-first_label-drop (frame_lines program moment.frame) moment.frame.place at.differ at.within ∙ drop-slice_get (frame_lines program moment.frame) moment.frame.place line at.found
 
-pub IsLineAt-version : (program : ProgramView) (moment : Moment) (line : Line) (version : Version) → version_of_code program (code_of moment.frame.code) ≡ Some version → IsAt program moment line
-    → IsLineAt version.body (label_at version.body.lines moment.frame.place) line (drop (moment.frame.place + 1) version.body.lines)
-IsLineAt-version program moment line version runs at =
+pub IsLineAt-body : (program : ProgramView) (moment : Moment) (line : Line) (body : BodyView) → body_at program (code_of moment.frame.code) ≡ Some body → IsAt program moment line
+    → IsLineAt body (label_at body.lines moment.frame.place) line (drop (moment.frame.place + 1) body.lines)
+IsLineAt-body program moment line body runs at =
     let Stands : List Line → Type 0 = λ lines. from_label (label_at lines moment.frame.place) lines ≡ line ∷ drop (moment.frame.place + 1) lines in
-    record { stands = subst Stands (frame_lines-are program moment.frame version runs) (from_label-place program moment line at) }
+    record { stands = subst Stands (frame_lines-are program moment.frame body runs) (from_label-place program moment line at) }
 
 -- each variable that the line needs has a value
 pub IsReady-line : (program : ProgramView) (moment : Moment) (line : Line) (body : BodyView) → IsAt program moment line → body_of program (code_of moment.frame.code) ≡ body
     → HasScopes body → MentionsItsVariables body → StandsAtLine program moment.frame None → IsReady line.instr moment.frame.env
 IsReady-line program moment line body at body_is scopes mentions stands =
-    let own = stands.version.body in
+    let own = stands.body in
     let place = moment.frame.place in
-    let same : body ≡ own = sym body_is ∙ ap body_of_version stands.runs in
+    let same : body ≡ own = sym body_is ∙ ap body_or_empty stands.runs in
     let Scopes : BodyView → Type 0 = HasScopes in
     let Mentions : BodyView → Type 0 = MentionsItsVariables in
     let Found : List Line → Type 0 = λ lines. slice_get lines place ≡ Some line in
@@ -127,9 +141,24 @@ IsReady-line program moment line body at body_is scopes mentions stands =
     let has : HasScopes own = subst Scopes same scopes in
     let all : MentionsItsVariables own = subst Mentions same mentions in
     record {
-      needs = (has.fine stands.count (label_at own.lines place) (scope_of moment.frame.env) line (drop (place + 1) own.lines) stands.path (IsLineAt-version program moment line stands.version stands.runs at)).needs;
-      mentions = subst Each (sym stands.row) (All-at Line_mentions own.lines place line (subst Found (frame_lines-are program moment.frame stands.version stands.runs) at.found) all);
+      needs = (has.fine stands.count (label_at own.lines place) (scope_of moment.frame.env) line (drop (place + 1) own.lines) stands.path (IsLineAt-body program moment line stands.body stands.runs at)).needs;
+      mentions = subst Each (sym stands.row) (All-at Line_mentions own.lines place line (subst Found (frame_lines-are program moment.frame stands.body stands.runs) at.found) all);
     }
+
+-- the continuations of the line name what is there, and land where their maps fit the scope
+pub IsNamed-line : (program : ProgramView) (moment : Moment) (line : Line) → IsProgram program → IsAt program moment line → StandsAtLine program moment.frame None
+    → AllByRecursion (IsNamed program.functions []) (continuations_of line.instr)
+IsNamed-line program moment line checked at stands =
+    let Found : List Line → Type 0 = λ lines. slice_get lines moment.frame.place ≡ Some line in
+    let Named : Line → Type 0 = λ line. AllByRecursion (IsNamed program.functions []) (continuations_of line.instr) in
+    All-at Named stands.body.lines moment.frame.place line (subst Found (frame_lines-are program moment.frame stands.body stands.runs) at.found)
+    (IsTextBody-runs program moment.frame.code stands.body checked stands.runs).exits.named
+
+pub Lands-line : (program : ProgramView) (moment : Moment) (line : Line) → IsProgram program → IsAt program moment line → StandsAtLine program moment.frame None
+    → AllByRecursion (Lands program.functions []) (continuations_of line.instr)
+Lands-line program moment line checked at stands =
+    (IsTextBody-runs program moment.frame.code stands.body checked stands.runs).exits.land stands.count (label_at stands.body.lines moment.frame.place) (scope_of moment.frame.env) line
+    (drop (moment.frame.place + 1) stands.body.lines) stands.path (IsLineAt-body program moment line stands.body stands.runs at)
 
 pub step-state_at : (program : ProgramView) (input : List Literal) (moment : Moment) (line : Line) → IsAt program moment line
     → step program text_choice (state_at program input moment) ≡ act program text_choice (frame_at program moment.frame None) line.instr (label_at (frame_lines program moment.frame) (moment.frame.place + 1)) (state_at program input moment)
@@ -137,11 +166,15 @@ step-state_at program input moment line at =
     step-at_place program text_choice (state_at program input moment) (frame_at program moment.frame None) (reverse (map (waiting_at program) moment.below)) moment.frame.place line
     (ap ending_of at.going) refl refl at.differ at.within at.found
 
+-- whether the top frame stands at a call
+pub top_calls-line : (program : ProgramView) (input : List Literal) (moment : Moment) (line : Line) → IsAt program moment line → top_calls program (state_at program input moment).frames ≡ is_call line.instr
+top_calls-line program input moment line at = ap first_calls (from_label-place program moment line at)
+
 -- one instruction more
-pub GoesOn-act : (program : ProgramView) (input : List Literal) (old mid new : Moment) (line : Line) → IsAt program mid line → ActsAs program input line.instr mid new → StaysInFrame mid new
+pub GoesOn-act : (program : ProgramView) (input : List Literal) (old mid new : Moment) (line : Line) → IsAt program mid line → ActsAs program input line.instr mid new → is_call line.instr ≡ false → StaysInFrame mid new
     → GoesOn (run_at program input true old) (run_at program input true mid) → GoesOn (run_at program input true old) (run_at program input true new)
-GoesOn-act program input old mid new line at acts stays on =
-    let none = entered-none program input mid new (omega (arith, ap length stays.below)) in
+GoesOn-act program input old mid new line at acts other stays on =
+    let none = entered-none program (state_at program input mid) (state_at program input new) (top_calls-line program input mid line at ∙ other) in
     GoesOn-on program input old mid new on (GoesOn-one program input mid new (step-state_at program input mid line at ∙ sym acts) (omega (arith, none, stays.calls)))
 
 -- the run at the line that wanted memory
@@ -159,23 +192,36 @@ StandsWanting-line program input mid new line at takes same =
       takes = takes;
     })
 
--- at an instruction that takes a turn the next step takes one
-TakesTurn-always : (program : ProgramView) (input : List Literal) (moment : Moment) (line : Line) → IsAt program moment line → AlwaysTakesTurn line.instr
-    → TakesTurn program (state_at program input moment)
-TakesTurn-always program input moment line at always =
-    let more : (step program text_choice (state_at program input moment)).turns ≡ moment.turns + 1 =
-    ap (λ (s : State). s.turns) (step-state_at program input moment line at)
-    ∙ always program text_choice (frame_at program moment.frame None) (label_at (frame_lines program moment.frame) (moment.frame.place + 1)) (state_at program input moment) in
-    omega (arith, more)
+-- the turns behind the line at which a run stands
+abbrev pub turns_behind : ProgramView → List Literal → Moment → Line → ℕ
+turns_behind program input moment line =
+    (act program text_choice (frame_at program moment.frame None) line.instr (label_at (frame_lines program moment.frame) (moment.frame.place + 1)) (state_at program input moment)).turns
 
 -- a run that would take a turn beyond its budget
+IsAtTurns-line : (program : ProgramView) (input : List Literal) (moment : Moment) (budget : ℕ) (line : Line) → IsAt program moment line → turns_behind program input moment line ≡ moment.turns + 1
+    → moment.turns ≡ budget → IsAtTurns budget (run_at program input true moment)
+IsAtTurns-line program input moment budget line at takes used =
+    let more : (step program text_choice (state_at program input moment)).turns ≡ moment.turns + 1 = ap (λ (s : State). s.turns) (step-state_at program input moment line at) ∙ takes in
+    record {
+      entered = refl;
+      has_memory = ap is_memory at.going;
+      rests = inr (ap ending_of at.going, used, omega (arith, more));
+    }
+
 pub IsAtTurns-more : (program : ProgramView) (input : List Literal) (moment : Moment) (budget : ℕ) (line : Line) → IsAt program moment line → AlwaysTakesTurn line.instr
     → moment.turns ≡ budget → IsAtTurns budget (run_at program input true moment)
-IsAtTurns-more program input moment budget line at always used = record {
-  entered = refl;
-  has_memory = ap is_memory at.going;
-  rests = inr (ap ending_of at.going, used, TakesTurn-always program input moment line at always);
-}
+IsAtTurns-more program input moment budget line at always used =
+    IsAtTurns-line program input moment budget line at
+    (always program text_choice (frame_at program moment.frame None) (label_at (frame_lines program moment.frame) (moment.frame.place + 1)) (state_at program input moment)) used
+
+-- or would leave by an exit
+pub IsAtTurns-leaving : (program : ProgramView) (input : List Literal) (old new : Moment) (budget : ℕ) (line : Line) → IsAt program old line → LeadsOut line.instr old.frame.env old.heap
+    → new ≡ old → new.turns ≡ budget → (new.end ≡ Cut) × IsAtTurns budget (run_at program input true new)
+IsAtTurns-leaving program input old new budget line at out same used =
+    let At : Moment → Type 0 = λ moment. (moment.end ≡ Cut) × IsAtTurns budget (run_at program input true moment) in
+    let takes : turns_behind program input old line ≡ old.turns + 1 =
+    turns-out program (frame_at program old.frame None) line.instr (label_at (frame_lines program old.frame) (old.frame.place + 1)) (state_at program input old) at.plain out in
+    subst At (sym same) (at.going, IsAtTurns-line program input old budget line at takes (sym (ap (λ (moment : Moment). moment.turns) same) ∙ used))
 
 -- the turns that an instruction takes
 pub turns-always : (program : ProgramView) (input : List Literal) (old new : Moment) (instr : Instr) → ActsAs program input instr old new → AlwaysTakesTurn instr
@@ -184,52 +230,53 @@ turns-always program input old new instr acts always =
     ap (λ (s : State). s.turns) acts
     ∙ always program text_choice (frame_at program old.frame None) (label_at (frame_lines program old.frame) (old.frame.place + 1)) (state_at program input old)
 
-pub turns-never : (program : ProgramView) (input : List Literal) (old new : Moment) (instr : Instr) → ActsAs program input instr old new → NeverTakesTurn instr
+pub turns-without : (program : ProgramView) (input : List Literal) (old new : Moment) (instr : Instr) → ActsAs program input instr old new → (LeadsOut instr old.frame.env old.heap → ⊥) → StaysWithoutTurn instr
     → new.turns ≡ old.turns
-turns-never program input old new instr acts never =
+turns-without program input old new instr acts inside without =
     ap (λ (s : State). s.turns) acts
-    ∙ never program text_choice (frame_at program old.frame None) (label_at (frame_lines program old.frame) (old.frame.place + 1)) (state_at program input old)
+    ∙ without program (frame_at program old.frame None) (label_at (frame_lines program old.frame) (old.frame.place + 1)) (state_at program input old) inside
 
 -- none takes turns back
-pub turns-grow : (program : ProgramView) (input : List Literal) (old new : Moment) (instr : Instr) → ActsAs program input instr old new → (test : Bool) → MatchBool test (AlwaysTakesTurn instr) (NeverTakesTurn instr)
-    → old.turns ≤ new.turns
-turns-grow program input old new instr acts true always = omega (arith, turns-always program input old new instr acts always)
-turns-grow program input old new instr acts false never = omega (arith, turns-never program input old new instr acts never)
+pub turns-grow : (program : ProgramView) (input : List Literal) (old new : Moment) (instr : Instr) → ActsAs program input instr old new → (LeadsOut instr old.frame.env old.heap → ⊥) → (test : Bool)
+    → MatchBool test (AlwaysTakesTurn instr) (StaysWithoutTurn instr) → old.turns ≤ new.turns
+turns-grow program input old new instr acts inside true always = omega (arith, turns-always program input old new instr acts always)
+turns-grow program input old new instr acts inside false without = omega (arith, turns-without program input old new instr acts inside without)
 
-any_program : ProgramView
+abbrev any_program : ProgramView
 any_program = record { functions = []; main = record { 0 = 0 } }
 
-any_frame : Frame
+abbrev any_frame : Frame
 any_frame = record { code = text (record { 0 = 0 }) 0; label = []; environment = []; waits = None }
 
--- no instruction always takes a turn and never takes one
-one_of : (instr : Instr) → AlwaysTakesTurn instr → NeverTakesTurn instr → ⊥
-one_of instr always never =
+-- no instruction always takes a turn and takes none
+one_of : (instr : Instr) → (LeadsOut instr [] [] → ⊥) → AlwaysTakesTurn instr → StaysWithoutTurn instr → ⊥
+one_of instr inside always without =
     let s : State = start any_program [] in
     let one : (act any_program text_choice any_frame instr [] s).turns ≡ s.turns + 1 = always any_program text_choice any_frame [] s in
-    let none : (act any_program text_choice any_frame instr [] s).turns ≡ s.turns = never any_program text_choice any_frame [] s in
+    let none : (act any_program text_choice any_frame instr [] s).turns ≡ s.turns = without any_program any_frame [] s inside in
     omega (arith, one, none)
 
--- one that enters a frame or leaves one takes a turn
-pub takes-crossing : (instr : Instr) → IsCrossing instr → (test : Bool) → MatchBool test (AlwaysTakesTurn instr) (NeverTakesTurn instr) → test ≡ true
+-- a call or a return takes a turn
+pub takes-crossing : (instr : Instr) → IsCrossing instr → (test : Bool) → MatchBool test (AlwaysTakesTurn instr) (StaysWithoutTurn instr) → test ≡ true
 takes-crossing instr crosses true always = refl
-takes-crossing instr crosses false never = absurd (one_of instr (turns_crossing instr crosses) never)
+takes-crossing instr crosses false without = absurd (one_of instr (crossing-stays instr [] [] crosses) (turns_crossing instr crosses) without)
 
 -- a run goes on from an instruction that takes no turn to the next line
-next_line : (instr : Instr) (jump : Jump) (next place : ℕ) → NeverTakesTurn instr → Contains (following instr jump next) place → place ≡ next
-next_line (Var x e) jump next place never at = Contains-one next place at
-next_line (Drop x) jump next place never at = Contains-one next place at
-next_line (Assign x e) jump next place never at = Contains-one next place at
-next_line (ArrayLength x e) jump next place never at = Contains-one next place at
-next_line (ArrayList x es) jump next place never at = Contains-one next place at
-next_line (Store x index e) jump next place never at = Contains-one next place at
-next_line (Print e) jump next place never at = Contains-one next place at
-next_line (Read x) jump next place never at = Contains-one next place at
-next_line (Branch e a b) jump next place never at = absurd (one_of (Branch e a b) (turns_branch e a b) never)
-next_line (Goto a) jump next place never at = absurd (one_of (Goto a) (λ program choice frame label s. refl) never)
-next_line (Call x callee es) jump next place never at = Contains-one next place at
-next_line (Return e) jump next place never at = absurd (omega (arith, at.1))
-next_line Stop jump next place never at = absurd (omega (arith, at.1))
+next_line : (instr : Instr) (jump : Jump) (next place : ℕ) → StaysWithoutTurn instr → Contains (following instr jump next) place → place ≡ next
+next_line (Var x e) jump next place without at = Contains-one next place at
+next_line (Drop x) jump next place without at = Contains-one next place at
+next_line (Assign x e) jump next place without at = Contains-one next place at
+next_line (ArrayLength x e) jump next place without at = Contains-one next place at
+next_line (ArrayList x es) jump next place without at = Contains-one next place at
+next_line (Store x index e) jump next place without at = Contains-one next place at
+next_line (Print e) jump next place without at = Contains-one next place at
+next_line (Read x) jump next place without at = Contains-one next place at
+next_line (Branch e a b) jump next place without at = absurd (one_of (Branch e a b) (λ out. out) (turns_branch e a b) without)
+next_line (Goto a) jump next place without at = absurd (one_of (Goto a) (λ out. out) (λ program choice frame label s. refl) without)
+next_line (Call x callee es) jump next place without at = Contains-one next place at
+next_line (Return e) jump next place without at = absurd (omega (arith, at.1))
+next_line Stop jump next place without at = absurd (omega (arith, at.1))
+next_line (Assume es exit) jump next place without at = Contains-one next place at
 
 -- an instruction leaves less before the run
 pub before-always : (program : ProgramView) (input : List Literal) (budget : ℕ) (old new : Moment) (line : Line) → IsAt program old line → ActsAs program input line.instr old new
@@ -237,13 +284,13 @@ pub before-always : (program : ProgramView) (input : List Literal) (budget : ℕ
 before-always program input budget old new line at acts always left =
     before-turn budget (length (frame_lines program old.frame)) old new at.going at.within left (turns-always program input old new line.instr acts always)
 
-pub before-never : (program : ProgramView) (input : List Literal) (budget : ℕ) (old new : Moment) (line : Line) (jump : Jump) → IsAt program old line → ActsAs program input line.instr old new
-    → NeverTakesTurn line.instr → ComesTo line.instr (following line.instr jump (old.frame.place + 1)) old.frame.env new new.end
+pub before-without : (program : ProgramView) (input : List Literal) (budget : ℕ) (old new : Moment) (line : Line) (jump : Jump) → IsAt program old line → ActsAs program input line.instr old new
+    → (LeadsOut line.instr old.frame.env old.heap → ⊥) → StaysWithoutTurn line.instr → ComesTo line.instr (following line.instr jump (old.frame.place + 1)) old.frame.env new new.end
     → before budget (length (frame_lines program old.frame)) new < before budget (length (frame_lines program old.frame)) old
-before-never program input budget old new line jump at acts never comes =
+before-without program input budget old new line jump at acts inside without comes =
     let Comes : End → Type 0 = ComesTo line.instr (following line.instr jump (old.frame.place + 1)) old.frame.env new in
-    before-line budget (length (frame_lines program old.frame)) old new at.going at.within (turns-never program input old new line.instr acts never)
-    (λ going. next_line line.instr jump (old.frame.place + 1) new.frame.place never (subst Comes going comes).place)
+    before-line budget (length (frame_lines program old.frame)) old new at.going at.within (turns-without program input old new line.instr acts inside without)
+    (λ going. next_line line.instr jump (old.frame.place + 1) new.frame.place without (subst Comes going comes).place)
 
 -- from a place of lines that end in a terminator on they end in one
 ends_from : (lines : List Line) (place : ℕ) → place < length lines → EndsInTerminator lines → EndsInTerminator (drop place lines)
@@ -257,7 +304,7 @@ StandsAtLine-act : (program : ProgramView) (old new : Moment) (line : Line) (jum
     → GoesFurther line.instr (following line.instr jump (old.frame.place + 1)) old.frame.env new → StandsAtLine program old.frame None → StandsAtLine program new.frame None
 StandsAtLine-act program old new line jump at goes stays further stands =
     let all = frame_lines program old.frame in
-    let own : all ≡ stands.version.body.lines = frame_lines-are program old.frame stands.version stands.runs in
+    let own : all ≡ stands.body.lines = frame_lines-are program old.frame stands.body stands.runs in
     let place = old.frame.place in
     let next = new.frame.place in
     let inside : next < length all =
@@ -265,17 +312,17 @@ StandsAtLine-act program old new line jump at goes stays further stands =
     let Ends : List Line → Type 0 = λ lines. EndsInTerminator (drop next lines) in
     let Follows : List Line → Type 0 = λ lines. Contains (followers line.instr (label_at lines (place + 1))) (label_at lines next) in
     record {
-      version = stands.version;
-      runs = ap (λ code. version_of_code program (code_of code)) stays.code ∙ stands.runs;
+      body = stands.body;
+      runs = ap (λ code. body_at program (code_of code)) stays.code ∙ stands.runs;
       line = λ terminated. subst Ends own (ends_from all next inside at.ends);
       count = suc stands.count;
       path = (
-        label_at stands.version.body.lines place,
+        label_at stands.body.lines place,
         scope_of old.frame.env,
         line,
-        drop (place + 1) stands.version.body.lines,
+        drop (place + 1) stands.body.lines,
         stands.path,
-        IsLineAt-version program old line stands.version stands.runs at,
+        IsLineAt-body program old line stands.body stands.runs at,
         subst Follows own (Contains-followers all line.instr jump place next goes further.place),
         further.scope,
       );
@@ -303,7 +350,8 @@ has_memory-act instr places environment new Cut comes is = cc
 has_memory-act instr places environment new Memory comes is = comes
 
 -- the run stands at an instruction that enters a frame or leaves one
-pub StandsCrossing-line : (program : ProgramView) (budget : ℕ) (old new : Moment) (line : Line) → IsAt program old line → new ≡ old → IsCrossing line.instr → old.turns < budget → StandsCrossing program budget new
+pub StandsCrossing-line : (program : ProgramView) (budget : ℕ) (old new : Moment) (line : Line) → IsAt program old line → new ≡ old → IsCrossing line.instr ⊎ LeadsOut line.instr old.frame.env old.heap → old.turns < budget
+    → StandsCrossing program budget new
 StandsCrossing-line program budget old new line at same crosses left =
     let At : Moment → Type 0 = StandsCrossing program budget in
     subst At (sym same) (record { going = at.going; left = left; line = line; found = at.found; crosses = crosses })

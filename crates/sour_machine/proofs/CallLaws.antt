@@ -1,35 +1,36 @@
--- What a call or a return leaves of a run.
-use Rattle.std.proofs.Common.{◌≡◌, ℕ, suc, ◌+◌, ◌<◌, ◌≤◌, List, [], ◌∷◌, true, Option, None, Some, get_or, length, drop, Contains, refl, sym, ap, ◌∙◌, subst, length-append, arith}
+-- What a call, a return or an exit leaves of a run.
+use Rattle.std.proofs.Common.{◌≡◌, ◌⊎◌, ℕ, suc, ◌+◌, ◌<◌, ◌≤◌, List, [], ◌∷◌, true, false, None, Some, get_or, length, drop, Contains, refl, sym, ap, ◌∙◌, subst, arith}
+use Rattle.std.specs.Prelude.{is_none}
 use Rattle.std.specs.List.{AllByRecursion, slice_get}
-use Rattle.std.specs.Option.{option_map}
 use Rattle.sour_syntax.specs.declared.expression.Expr.{Expr}
 use Rattle.sour_syntax.specs.declared.expression.Simple.{Simple}
 use Rattle.sour_syntax.specs.declared.instruction.Instr.{Instr}
-use Rattle.sour_syntax.specs.declared.instruction.Instr.TheVariants.{Var, Drop, Assign, ArrayLength, ArrayList, Store, Print, Read, Branch, Goto, Call, Return, Stop}
+use Rattle.sour_syntax.specs.declared.instruction.Instr.TheVariants.{Var, Drop, Assign, ArrayLength, ArrayList, Store, Print, Read, Branch, Goto, Call, Return, Stop, Assume}
 use Rattle.sour_syntax.specs.declared.instruction.Line.{Line}
 use Rattle.sour_syntax.specs.declared.literal.Literal.{Literal}
 use Rattle.sour_syntax.specs.declared.literal.VarId.{VarId}
-use Rattle.sour_syntax.specs.declared.program.Version.{Version}
 use Rattle.sour_syntax.specs.BodyView.{BodyView}
 use Rattle.sour_syntax.specs.Labels.{LabelsDiffer, label_at}
-use Rattle.sour_syntax.specs.Program.{ProgramView}
+use Rattle.sour_syntax.specs.Program.{ProgramView, IsProgram}
 use Rattle.sour_syntax.specs.Scopes.{followers, scope_after}
 use Rattle.sour_syntax.specs.Terminator.{IsTerminator, EndsInTerminator}
 use Rattle.sour_syntax.proofs.LabelPlaces.{EndsInTerminator-next}
-use Rattle.sour_semantics.specs.Step.{body_of_version, version_of_code, body_of}
+use Rattle.sour_semantics.specs.State.{State}
+use Rattle.sour_semantics.specs.Step.{body_at, body_of}
 use Rattle.sour_semantics.specs.Validity.{scope_of}
-use Rattle.sour_machine.specs.declared.frame.Waiting.{Waiting}
+use Rattle.sour_machine.specs.declared.activation.Waiting.{Waiting}
 use Rattle.sour_machine.specs.declared.moment.Moment.{Moment}
 use Rattle.sour_machine.specs.declared.report.End.{End}
 use Rattle.sour_machine.specs.declared.report.End.TheVariants.{Returned, Stopped, Trapped, Cut, Memory}
-use Rattle.sour_machine.specs.Frame.{code_of, frame_lines, StandsAtLine, StandsWaiting}
-use Rattle.sour_machine.specs.Instruction.{IsReady, ActsAs, IsCrossing, EntersOr, CrossesTo, StandsCrossing}
+use Rattle.sour_machine.specs.End.{ending_of}
+use Rattle.sour_machine.specs.Frame.{code_of, frame_lines, frame_at, StandsAtLine, StandsWaiting}
+use Rattle.sour_machine.specs.Instruction.{IsReady, ActsAs, IsCrossing, LeadsOut, EntersOr, CrossesTo, StandsCrossing}
 use Rattle.sour_machine.specs.Moment.{state_at, run_at, Stands}
-use Rattle.sour_machine.specs.Run.{GoesOn, entered_by}
+use Rattle.sour_machine.specs.Run.{GoesOn, is_call, top_calls, entered_by}
 use Rattle.sour_machine.proofs.FrameLaws.{All-append, frame_lines-are}
-use Rattle.sour_machine.proofs.Advances.{IsAt, IsAt-lines, IsLineAt-version, step-state_at, turns-always}
-use Rattle.sour_machine.proofs.Instructions.{turns_crossing}
-use Rattle.sour_machine.proofs.RunLaws.{entered-none, entered-one, GoesOn-one, GoesOn-on}
+use Rattle.sour_machine.proofs.Advances.{IsAt, IsAt-lines, IsLineAt-body, body_of-runs, step-state_at, top_calls-line}
+use Rattle.sour_machine.proofs.Instructions.{turns-crosses}
+use Rattle.sour_machine.proofs.RunLaws.{entered-none, entered-ended, entered-one, GoesOn-one, GoesOn-on}
 
 -- the frame that called waits at its next line, and the path goes on to it with the result in the scope
 pub StandsWaiting-caller : (program : ProgramView) (old : Moment) (line : Line) (x : VarId) (callee : Simple) (es : List Expr) → line.instr ≡ Call x callee es → IsAt program old line
@@ -37,15 +38,15 @@ pub StandsWaiting-caller : (program : ProgramView) (old : Moment) (line : Line) 
 StandsWaiting-caller program old line x callee es is at there stands =
     let all = frame_lines program old.frame in
     let place = old.frame.place in
-    let own : all ≡ stands.version.body.lines = frame_lines-are program old.frame stands.version stands.runs in
-    let lines = stands.version.body.lines in
+    let own : all ≡ stands.body.lines = frame_lines-are program old.frame stands.body stands.runs in
+    let lines = stands.body.lines in
     let Ends : Instr → Type 0 = λ instr. IsTerminator instr → ⊥ in
     let goes_on : Ends line.instr = subst Ends (sym is) (λ no. no) in
     let Found : List Line → Type 0 = λ lines. slice_get lines place ≡ Some line in
     let Follows : Instr → Type 0 = λ instr. Contains (followers instr (label_at lines (place + 1))) (label_at lines (place + 1)) in
     record {
       at_line = record {
-        version = stands.version;
+        body = stands.body;
         runs = stands.runs;
         line = λ terminated. EndsInTerminator-next lines place line (subst Found own at.found) goes_on (stands.line terminated);
         count = suc stands.count;
@@ -55,7 +56,7 @@ StandsWaiting-caller program old line x callee es is at there stands =
           line,
           drop (place + 1) lines,
           stands.path,
-          IsLineAt-version program old line stands.version stands.runs at,
+          IsLineAt-body program old line stands.body stands.runs at,
           subst Follows (sym is) (0, omega arith, refl),
           ap (λ instr. scope_after instr (scope_of old.frame.env)) (sym is),
         );
@@ -90,25 +91,29 @@ entered-calls program x old new Stopped enters = absurd enters
 entered-calls program x old new (Trapped trap) enters = omega (arith, enters.calls)
 entered-calls program x old new Memory enters = absurd enters
 
--- one frame more was entered where there are more
-entered-counted : (program : ProgramView) (input : List Literal) (x : VarId) (old new : Moment) (end : End) → EntersOr program x old new end
-    → new.calls ≡ old.calls + entered_by (state_at program input old) (state_at program input new)
-entered-counted program input x old new Cut enters =
-    let waiting : Waiting = record { frame = record old.frame { place = old.frame.place + 1 }; result = x } in
-    let more : length new.below ≡ length old.below + 1 = ap length enters.below ∙ length-append old.below (waiting ∷ []) in
-    omega (arith, enters.calls, entered-one program input old new more)
-entered-counted program input x old new (Returned value) enters = absurd enters
-entered-counted program input x old new Stopped enters = absurd enters
-entered-counted program input x old new (Trapped trap) enters =
-    omega (arith, enters.calls, entered-none program input old new (omega (arith, ap length enters.below)))
-entered-counted program input x old new Memory enters = absurd enters
+-- one frame more was entered where the run goes on
+entered-counted : (program : ProgramView) (input : List Literal) (x : VarId) (old new : Moment) (end : End) → new.end ≡ end → old.end ≡ Cut → top_calls program (state_at program input old).frames ≡ true
+    → EntersOr program x old new end → new.calls ≡ old.calls + entered_by program (state_at program input old) (state_at program input new)
+entered-counted program input x old new Cut is going calls enters =
+    omega (arith, enters.calls, entered-one program (state_at program input old) (state_at program input new) (ap ending_of going) (ap ending_of is) calls)
+entered-counted program input x old new (Returned value) is going calls enters = absurd enters
+entered-counted program input x old new Stopped is going calls enters = absurd enters
+entered-counted program input x old new (Trapped trap) is going calls enters =
+    omega (arith, enters.calls, entered-ended program (state_at program input old) (state_at program input new) (ap (λ end. is_none (ending_of end)) is))
+entered-counted program input x old new Memory is going calls enters = absurd enters
 
--- what holds of a run behind a call or a return
+-- no other instruction enters a frame
+others-counted : (program : ProgramView) (input : List Literal) (old new : Moment) (line : Line) → IsAt program old line → is_call line.instr ≡ false → new.calls ≡ old.calls
+    → new.calls ≡ old.calls + entered_by program (state_at program input old) (state_at program input new)
+others-counted program input old new line at other same =
+    omega (arith, same, entered-none program (state_at program input old) (state_at program input new) (top_calls-line program input old line at ∙ other))
+
+-- what holds of a run behind a call, a return or an exit
 pub record Crossed (program : ProgramView) (input : List Literal) (old new : Moment) : Type 0 where
   pub at_line : new.end ≡ Cut → StandsAtLine program new.frame None
   pub below : AllByRecursion (StandsWaiting program) new.below
   pub calls : new.calls ≤ old.calls + 1
-  pub counted : new.calls ≡ old.calls + entered_by (state_at program input old) (state_at program input new)
+  pub counted : new.calls ≡ old.calls + entered_by program (state_at program input old) (state_at program input new)
 
 crossed_by : (program : ProgramView) (input : List Literal) (old new : Moment) (line : Line) (instr : Instr) → line.instr ≡ instr → IsAt program old line → IsReady instr old.frame.env → CrossesTo program instr old new
     → StandsAtLine program old.frame None → AllByRecursion (StandsWaiting program) old.below → Crossed program input old new
@@ -128,15 +133,21 @@ crossed_by program input old new line (Call x callee es) is at ready crosses sta
       at_line = entered-line program x old new new.end crosses;
       below = entered-below program x old new new.end crosses all caller;
       calls = entered-calls program x old new new.end crosses;
-      counted = entered-counted program input x old new new.end crosses;
+      counted = entered-counted program input x old new new.end refl at.going (top_calls-line program input old line at ∙ ap is_call is) crosses;
     }
 crossed_by program input old new line (Return e) is at ready crosses stands all = record {
   at_line = crosses.top all;
   below = crosses.below all;
   calls = omega (arith, crosses.calls);
-  counted = omega (arith, crosses.calls, entered-none program input old new crosses.fewer);
+  counted = others-counted program input old new line at (ap is_call is) crosses.calls;
 }
 crossed_by program input old new line Stop is at ready crosses stands all = absurd crosses
+crossed_by program input old new line (Assume es exit) is at ready crosses stands all = record {
+  at_line = crosses.top;
+  below = crosses.below all;
+  calls = omega (arith, crosses.calls);
+  counted = others-counted program input old new line at (ap is_call is) crosses.calls;
+}
 
 pub Crossed-line : (program : ProgramView) (input : List Literal) (old new : Moment) (line : Line) → IsAt program old line → IsReady line.instr old.frame.env → CrossesTo program line.instr old new
     → Stands program input old → Crossed program input old new
@@ -152,34 +163,33 @@ Stands-crossed program input old new crossed reads turns stands = record {
   calls = omega (arith, crossed.calls, turns, stands.calls);
 }
 
--- one call or return more
+-- one call, return or exit more
 pub GoesOn-crossed : (program : ProgramView) (input : List Literal) (old mid new : Moment) (line : Line) → IsAt program mid line → ActsAs program input line.instr mid new → Crossed program input mid new
     → GoesOn (run_at program input true old) (run_at program input true mid) → GoesOn (run_at program input true old) (run_at program input true new)
 GoesOn-crossed program input old mid new line at acts crossed on =
     GoesOn-on program input old mid new on (GoesOn-one program input mid new (step-state_at program input mid line at ∙ sym acts) crossed.counted)
 
-body_of-found : (found : Option Version) (body : BodyView) → Some body ≡ option_map (λ (version : Version). version.body) found → body_of_version found ≡ body
-body_of-found None body is = cc
-body_of-found (Some version) body is = let same : body ≡ version.body = cc in sym same
-
 -- the line that enters a frame or leaves one, as the code reads it
 pub record ReadsCrossing (program : ProgramView) (moment : Moment) (body : BodyView) (line : Line) : Type 0 where
   pub at : IsAt program moment line
   pub runs : body_of program (code_of moment.frame.code) ≡ body
-  pub crosses : IsCrossing line.instr
+  pub crosses : IsCrossing line.instr ⊎ LeadsOut line.instr moment.frame.env moment.heap
 
-pub ReadsCrossing-lines : (program : ProgramView) (start moment : Moment) (body : BodyView) (lines : List Line) (default : Line) (budget : ℕ) → moment.frame.code ≡ start.frame.code
-    → Some body ≡ option_map (λ (version : Version). version.body) (version_of_code program (code_of start.frame.code)) → lines ≡ body.lines → LabelsDiffer lines → EndsInTerminator lines
+pub ReadsCrossing-lines : (program : ProgramView) (start moment : Moment) (body : BodyView) (lines : List Line) (default : Line) (budget : ℕ) → IsProgram program → moment.frame.code ≡ start.frame.code
+    → Some body ≡ body_at program (code_of start.frame.code) → lines ≡ body.lines → LabelsDiffer lines → EndsInTerminator lines
     → StandsCrossing program budget moment → StandsAtLine program moment.frame None → ReadsCrossing program moment body (get_or lines moment.frame.place default)
-ReadsCrossing-lines program start moment body lines default budget code found lines_are differ terminated crossing stands =
+ReadsCrossing-lines program start moment body lines default budget checked code found lines_are differ terminated crossing stands =
     let body_is : body_of program (code_of moment.frame.code) ≡ body =
-    ap (λ code. body_of program (code_of code)) code ∙ body_of-found (version_of_code program (code_of start.frame.code)) body found in
-    let at : IsAt program moment (get_or lines moment.frame.place default) = IsAt-lines program moment body lines default body_is lines_are differ terminated crossing.going stands in
+    ap (λ code. body_of program (code_of code)) code ∙ body_of-runs program start body (sym found) in
+    let at : IsAt program moment (get_or lines moment.frame.place default) = IsAt-lines program moment body lines default checked body_is lines_are differ terminated crossing.going stands in
     let same_found : Some crossing.line ≡ Some (get_or lines moment.frame.place default) = sym crossing.found ∙ at.found in
     let same : crossing.line ≡ get_or lines moment.frame.place default = cc in
-    let Crosses : Line → Type 0 = λ line. IsCrossing line.instr in
+    let Crosses : Line → Type 0 = λ line. IsCrossing line.instr ⊎ LeadsOut line.instr moment.frame.env moment.heap in
     record { at = at; runs = body_is; crosses = subst Crosses same crossing.crosses }
 
 -- the turn that it takes
-pub turns-crossing : (program : ProgramView) (input : List Literal) (old new : Moment) (line : Line) → IsCrossing line.instr → ActsAs program input line.instr old new → new.turns ≡ old.turns + 1
-turns-crossing program input old new line crosses acts = turns-always program input old new line.instr acts (turns_crossing line.instr crosses)
+pub turns-crossing : (program : ProgramView) (input : List Literal) (old new : Moment) (line : Line) → IsAt program old line → IsCrossing line.instr ⊎ LeadsOut line.instr old.frame.env old.heap
+    → ActsAs program input line.instr old new → new.turns ≡ old.turns + 1
+turns-crossing program input old new line at crosses acts =
+    ap (λ (s : State). s.turns) acts
+    ∙ turns-crosses program (frame_at program old.frame None) line.instr (label_at (frame_lines program old.frame) (old.frame.place + 1)) (state_at program input old) at.plain crosses

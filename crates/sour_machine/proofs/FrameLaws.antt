@@ -2,23 +2,22 @@
 use Rattle.std.proofs.Common.{◌≡◌, ℕ, zero, suc, ◌-◌, ◌≤◌, List, [], ◌∷◌, ◌++◌, true, false, Option, None, Some, length, map, replicate, drop, refl, sym, ap, ◌∙◌, subst, length-append, arith}
 use Rattle.std.specs.Prelude.{is_some, slice_get, slice_set}
 use Rattle.std.specs.List.{AllByRecursion}
-use Rattle.std.specs.Option.{option_map}
-use Rattle.std.proofs.lemmas.List.{map-append, length-map, length-reverse, length-replicate}
-use Rattle.sour_syntax.specs.declared.program.Version.{Version}
+use Rattle.std.proofs.lemmas.List.{map-append, length-map, length-replicate}
 use Rattle.sour_syntax.specs.BodyView.{BodyView}
 use Rattle.sour_syntax.specs.Labels.{label_at}
 use Rattle.sour_syntax.specs.Program.{ProgramView, HasMain}
 use Rattle.sour_syntax.specs.Scopes.{Scope, HasScope, first_scope}
+use Rattle.sour_syntax.specs.Targets.{version_body, text_body}
 use Rattle.sour_syntax.specs.Terminator.{EndsInTerminator}
 use Rattle.sour_syntax.specs.declared.literal.FunId.{FunId}
 use Rattle.sour_syntax.specs.declared.literal.Value.{Value}
 use Rattle.sour_semantics.specs.State as state
 use Rattle.sour_semantics.specs.State.{Environment}
-use Rattle.sour_semantics.specs.Step.{body_of_version, version_of, version_of_code, first_environment}
+use Rattle.sour_semantics.specs.Step.{body_or_empty, body_at, first_environment}
 use Rattle.sour_semantics.specs.Validity.{scope_of}
-use Rattle.sour_machine.specs.declared.frame.Frame.{Frame}
-use Rattle.sour_machine.specs.declared.frame.Waiting.{Waiting}
-use Rattle.sour_machine.specs.Frame.{code_of, frame_lines, waiting_at, frames_at, StandsAtLine, StandsWaiting}
+use Rattle.sour_machine.specs.declared.activation.Activation.{Activation}
+use Rattle.sour_machine.specs.declared.activation.Waiting.{Waiting}
+use Rattle.sour_machine.specs.Frame.{code_of, frame_lines, StandsAtLine, StandsWaiting}
 use Rattle.sour_machine.specs.Instruction.{HasPlaces}
 use Rattle.sour_machine.proofs.Scopes.{scope_of-set, row-set}
 
@@ -76,42 +75,42 @@ first_environment-row body row env values count is counts begun =
     ∙ ap (λ n. map Some values ++ replicate (length body.variables - n) None) each
 
 -- a frame that was entered stands at its first line
-pub StandsAtLine-first : (program : ProgramView) (frame : Frame) (version : Version) (values : List Value) → version_of_code program (code_of frame.code) ≡ Some version → frame.place ≡ 0
-    → frame.env ≡ first_environment version.body values → length values ≡ version.body.parameters → version.body.parameters ≤ length version.body.variables → StandsAtLine program frame None
-StandsAtLine-first program frame version values runs first begun taken within =
-    let lines = version.body.lines in
+pub StandsAtLine-first : (program : ProgramView) (frame : Activation) (body : BodyView) (values : List Value) → body_at program (code_of frame.code) ≡ Some body → frame.place ≡ 0
+    → frame.env ≡ first_environment body values → length values ≡ body.parameters → body.parameters ≤ length body.variables → StandsAtLine program frame None
+StandsAtLine-first program frame body values runs first begun taken within =
+    let lines = body.lines in
     let Ends : ℕ → Type 0 = λ place. EndsInTerminator (drop place lines) in
     let zero_place : 0 ≡ frame.place = sym first in
     record {
-      version = version;
+      body = body;
       runs = runs;
       line = λ terminated. subst Ends zero_place terminated;
       count = 0;
-      path = (ap (λ place. label_at lines place) first, ap scope_of begun ∙ scope_of-first version.body values taken);
-      row = ap length begun ∙ length-first version.body values (omega arith);
+      path = (ap (λ place. label_at lines place) first, ap scope_of begun ∙ scope_of-first body values taken);
+      row = ap length begun ∙ length-first body values (omega arith);
     }
 
--- the text version of main
-pub version_of-main : (program : ProgramView) (has : HasMain program) (main : FunId) → main ≡ program.main → version_of_code program (state.text main 0) ≡ Some has.version
-version_of-main program has main is =
-    ap (λ (f : FunId). version_of (slice_get program.functions f.0) 0) is
-    ∙ ap (λ found. version_of found 0) has.found
-    ∙ ap (λ versions. slice_get versions 0) has.text
+-- the body of the text version of main
+pub body_at-main : (program : ProgramView) (has : HasMain program) (main : FunId) → main ≡ program.main → body_at program (state.text main 0) ≡ Some has.version.body
+body_at-main program has main is =
+    ap (λ (f : FunId). text_body (slice_get program.functions f.0) 0) is
+    ∙ ap (λ found. text_body found 0) has.found
+    ∙ ap (λ versions. version_body (slice_get versions 0)) has.text
 
 -- main stands at its first line, where none of its variables has a value
-pub StandsAtLine-main : (program : ProgramView) (has : HasMain program) (frame : Frame) (body : BodyView) (count : ℕ) → code_of frame.code ≡ state.text program.main 0 → frame.place ≡ 0
-    → Some body ≡ option_map (λ (version : Version). version.body) (version_of_code program (code_of frame.code)) → count ≡ length body.variables → frame.env ≡ replicate (count - 0) None → StandsAtLine program frame None
+pub StandsAtLine-main : (program : ProgramView) (has : HasMain program) (frame : Activation) (body : BodyView) (count : ℕ) → code_of frame.code ≡ state.text program.main 0 → frame.place ≡ 0
+    → Some body ≡ body_at program (code_of frame.code) → count ≡ length body.variables → frame.env ≡ replicate (count - 0) None → StandsAtLine program frame None
 StandsAtLine-main program has frame body count code first runs_body counts begun =
-    let runs : version_of_code program (code_of frame.code) ≡ Some has.version = ap (version_of_code program) code ∙ version_of-main program has program.main refl in
-    let same : Some body ≡ Some has.version.body = runs_body ∙ ap (option_map (λ (version : Version). version.body)) runs in
+    let runs : body_at program (code_of frame.code) ≡ Some has.version.body = ap (body_at program) code ∙ body_at-main program has program.main refl in
+    let same : Some body ≡ Some has.version.body = runs_body ∙ runs in
     let is : body ≡ has.version.body = cc in
-    StandsAtLine-first program frame has.version [] runs first
+    StandsAtLine-first program frame has.version.body [] runs first
     (begun ∙ ap (λ n. replicate (n - 0) None) (counts ∙ ap (λ (b : BodyView). length b.variables) is))
     (sym has.parameters) (omega (arith, has.parameters))
 
--- the lines that a frame runs are those of its version
-pub frame_lines-are : (program : ProgramView) (frame : Frame) (version : Version) → version_of_code program (code_of frame.code) ≡ Some version → frame_lines program frame ≡ version.body.lines
-frame_lines-are program frame version runs = ap (λ found. (body_of_version found).lines) runs
+-- the lines that a frame runs are those of its body
+pub frame_lines-are : (program : ProgramView) (frame : Activation) (body : BodyView) → body_at program (code_of frame.code) ≡ Some body → frame_lines program frame ≡ body.lines
+frame_lines-are program frame body runs = ap (λ found. (body_or_empty found).lines) runs
 
 -- a frame that got the result for which it waited
 pub StandsAtLine-resumed : (program : ProgramView) (waiting : Waiting) (env : Environment) (value : Value) → env ≡ slice_set waiting.frame.env waiting.result.0 (Some value) → StandsWaiting program waiting
@@ -119,17 +118,12 @@ pub StandsAtLine-resumed : (program : ProgramView) (waiting : Waiting) (env : En
 StandsAtLine-resumed program waiting env value is stands =
     let at = stands.at_line in
     let scope : scope_of env ≡ slice_set (scope_of waiting.frame.env) waiting.result.0 true = scope_of-set waiting.frame.env env waiting.result.0 (Some value) is in
-    let Path : Scope → Type 0 = λ scope. HasScope at.version.body at.count (label_at at.version.body.lines waiting.frame.place) scope in
+    let Path : Scope → Type 0 = λ scope. HasScope at.body at.count (label_at at.body.lines waiting.frame.place) scope in
     record {
-      version = at.version;
+      body = at.body;
       runs = at.runs;
       line = at.line;
       count = at.count;
       path = subst Path (sym scope) at.path;
       row = row-set waiting.frame.env env waiting.result.0 (Some value) is ∙ at.row;
     }
-
--- how many frames there are
-pub length-frames_at : (program : ProgramView) (frame : Frame) (below : List Waiting) → length (frames_at program frame below) ≡ suc (length below)
-length-frames_at program frame below =
-    ap suc (length-reverse (map (waiting_at program) below) ∙ length-map below (waiting_at program))

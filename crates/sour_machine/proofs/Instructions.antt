@@ -1,21 +1,24 @@
 -- What an instruction comes to, once its value or its trap is known.
-use Rattle.std.proofs.Common.{◌≡◌, ℕ, List, [], ◌∷◌, Bool, true, false, cond, Ok, Err, Result, Option, None, Some, length, refl, ap}
+use Rattle.std.proofs.Common.{◌≡◌, ◌⊎◌, inl, inr, ◌∙◌, ◌+◌, ℕ, List, [], ◌∷◌, Bool, true, false, cond, Ok, Err, Result, Option, None, Some, length, refl, ap}
 use Rattle.std.specs.Prelude.{nat_eq}
 use Rattle.sour_syntax.specs.declared.expression.Expr.{Expr}
 use Rattle.sour_syntax.specs.declared.expression.Simple.{Simple}
+use Rattle.sour_syntax.specs.declared.exit.Exit.{Exit}
 use Rattle.sour_syntax.specs.declared.instruction.Instr.{Instr}
-use Rattle.sour_syntax.specs.declared.instruction.Instr.TheVariants.{Var, Drop, Assign, ArrayLength, ArrayList, Store, Print, Read, Branch, Goto, Call, Return, Stop}
+use Rattle.sour_syntax.specs.declared.instruction.Instr.TheVariants.{Var, Drop, Assign, ArrayLength, ArrayList, Store, Print, Read, Branch, Goto, Call, Return, Stop, Assume}
 use Rattle.sour_syntax.specs.declared.literal.FunId.{FunId}
-use Rattle.sour_syntax.specs.declared.program.Version.{Version}
+use Rattle.sour_syntax.specs.BodyView.{BodyView}
 use Rattle.sour_syntax.specs.declared.literal.Value.{Value}
 use Rattle.sour_syntax.specs.declared.literal.VarId.{VarId}
 use Rattle.sour_syntax.specs.declared.trap.Trap.{Trap}
 use Rattle.sour_syntax.specs.declared.trap.Trap.TheVariants.{ArgCount}
+use Rattle.sour_syntax.specs.Exits.{continuations}
 use Rattle.sour_syntax.specs.Program.{ProgramView}
-use Rattle.sour_semantics.specs.State.{Frame, FrameCode, State, trapped}
-use Rattle.sour_semantics.specs.Step.{Entry, Choice, version_of_code, ends, takes_turn, goes_to, sets, given, branches, waits_for, entered_frame, entered_code, enters, calls, resumes, returns, act}
-use Rattle.sour_semantics.specs.Evaluation.{eval, eval_each, operand, truth_in, function_in}
-use Rattle.sour_machine.specs.Instruction.{IsCrossing, AlwaysTakesTurn}
+use Rattle.sour_semantics.specs.State.{Environment, Heap, Frame, FrameCode, State, trapped}
+use Rattle.sour_semantics.specs.Step.{Entry, Choice, text_choice, body_at, ends, takes_turn, landed_frames, replaces_top, leaves, is_anchor, takes_exit_turn, assumes, stays, goes_to, sets, given, branches, waits_for, entered_frame, entered_code, enters, calls, resumes, returns, act}
+use Rattle.sour_semantics.specs.Evaluation.{eval, eval_each, operand, truth_in, function_in, holds_each}
+use Rattle.sour_machine.specs.Instruction.{IsCrossing, LeadsOut, AlwaysTakesTurn, StaysWithoutTurn}
+use Rattle.sour_machine.specs.Run.{is_call}
 
 module _ (program : ProgramView) (choice : Choice) (frame : Frame) (expr : Expr) (next : List ℕ) (s : State) (trap : Trap) (evaluated : eval frame.environment s.heap expr ≡ Err trap) where
   pub act-set-trap : (x : VarId) → act program choice frame (Var x expr) next s ≡ ends (trapped trap) s
@@ -37,6 +40,20 @@ module _ (program : ProgramView) (choice : Choice) (frame : Frame) (expr : Expr)
   pub act-branch : (first second : List ℕ) → act program choice frame (Branch expr first second) next s ≡ branches (truth_in value) first second (takes_turn s)
   act-branch first second = ap (λ outcome. given outcome (λ value. branches (truth_in value) first second (takes_turn s)) (takes_turn s)) evaluated
 
+-- an assume that doesn't hold leaves
+pub act-leaves : (program : ProgramView) (frame : Frame) (es : List Expr) (exit : Exit) (next : List ℕ) (s : State) → holds_each frame.environment s.heap es ≡ Ok false
+    → act program text_choice frame (Assume es exit) next s ≡ assumes program frame exit next false s
+act-leaves program frame es exit next s out = ap (λ outcome. given outcome (λ holds. assumes program frame exit next (stays text_choice frame.label holds) s) s) out
+
+-- what an exit of a text version leaves of a state
+pub act-exit : (program : ProgramView) (frame : Frame) (es : List Expr) (exit : Exit) (next : List ℕ) (s : State) → holds_each frame.environment s.heap es ≡ Ok false → is_anchor frame.label ≡ false
+    → act program text_choice frame (Assume es exit) next s ≡ leaves program frame exit (takes_turn s)
+act-exit program frame es exit next s out plain = act-leaves program frame es exit next s out ∙ ap (λ anchor. leaves program frame exit (takes_exit_turn anchor s)) plain
+
+turns-given : {A : Type 0} (outcome : Result A Trap) (onward : A → State) (s : State) → ((value : A) → (onward value).turns ≡ s.turns) → (given outcome onward s).turns ≡ s.turns
+turns-given (Ok value) onward s same = same value
+turns-given (Err trap) onward s same = refl
+
 turns-truths : (found : Option Bool) (first second : List ℕ) (s : State) → (branches found first second s).turns ≡ s.turns
 turns-truths None first second s = refl
 turns-truths (Some true) first second s = refl
@@ -55,14 +72,14 @@ turns-cond : (test : Bool) (s t : State) (turns : ℕ) → s.turns ≡ turns →
 turns-cond true s t turns one other = one
 turns-cond false s t turns one other = other
 
-turns-enters : (x : VarId) (code : FrameCode) (found : Option Version) (values : List Value) (next : List ℕ) (s : State) → (enters x code found values next s).turns ≡ s.turns
+turns-enters : (x : VarId) (code : FrameCode) (found : Option BodyView) (values : List Value) (next : List ℕ) (s : State) → (enters x code found values next s).turns ≡ s.turns
 turns-enters x code None values next s = refl
-turns-enters x code (Some version) values next s =
-    turns-cond (nat_eq (length values) version.body.parameters) (record s { frames = entered_frame code version.body values ∷ waits_for x next s.frames }) (ends (trapped ArgCount) s) s.turns refl refl
+turns-enters x code (Some body) values next s =
+    turns-cond (nat_eq (length values) body.parameters) (record s { frames = entered_frame code body values ∷ waits_for x next s.frames }) (ends (trapped ArgCount) s) s.turns refl refl
 
 turns-calls : (program : ProgramView) (entry : Entry) (x : VarId) (found : Option FunId) (values : List Value) (next : List ℕ) (s : State) → (calls program entry x found values next s).turns ≡ s.turns
 turns-calls program entry x None values next s = refl
-turns-calls program entry x (Some f) values next s = turns-enters x (entered_code entry f) (version_of_code program (entered_code entry f)) values next s
+turns-calls program entry x (Some f) values next s = turns-enters x (entered_code entry f) (body_at program (entered_code entry f)) values next s
 
 turns-given_calls : (program : ProgramView) (entry : Entry) (x : VarId) (found : Option FunId) (outcome : Result (List Value) Trap) (next : List ℕ) (s : State) → (given outcome (λ values. calls program entry x found values next s) s).turns ≡ s.turns
 turns-given_calls program entry x found (Ok values) next s = turns-calls program entry x found values next s
@@ -90,7 +107,7 @@ turns-given_returns (Err trap) frames s = refl
 pub turns_return : (expr : Expr) → AlwaysTakesTurn (Return expr)
 turns_return expr program choice frame next s = turns-given_returns (eval frame.environment s.heap expr) s.frames (takes_turn s)
 
--- an instruction that enters a frame or leaves one takes a turn
+-- a call or a return takes a turn
 pub turns_crossing : (instr : Instr) → IsCrossing instr → AlwaysTakesTurn instr
 turns_crossing (Var x e) crosses = absurd crosses
 turns_crossing (Drop x) crosses = absurd crosses
@@ -105,3 +122,81 @@ turns_crossing (Goto a) crosses = absurd crosses
 turns_crossing (Call x callee es) crosses = turns_call x callee es
 turns_crossing (Return e) crosses = turns_return e
 turns_crossing Stop crosses = absurd crosses
+turns_crossing (Assume es exit) crosses = absurd crosses
+
+-- and has no predicates
+pub crossing-stays : (instr : Instr) (environment : Environment) (heap : Heap) → IsCrossing instr → LeadsOut instr environment heap → ⊥
+crossing-stays (Var x e) environment heap crosses out = out
+crossing-stays (Drop x) environment heap crosses out = out
+crossing-stays (Assign x e) environment heap crosses out = out
+crossing-stays (ArrayLength x e) environment heap crosses out = out
+crossing-stays (ArrayList x es) environment heap crosses out = out
+crossing-stays (Store x index e) environment heap crosses out = out
+crossing-stays (Print e) environment heap crosses out = out
+crossing-stays (Read x) environment heap crosses out = out
+crossing-stays (Branch e a b) environment heap crosses out = out
+crossing-stays (Goto a) environment heap crosses out = out
+crossing-stays (Call x callee es) environment heap crosses out = out
+crossing-stays (Return e) environment heap crosses out = out
+crossing-stays Stop environment heap crosses out = out
+crossing-stays (Assume es exit) environment heap crosses out = crosses
+
+-- no instruction that leads out is a call
+pub calls_none-out : (instr : Instr) (environment : Environment) (heap : Heap) → LeadsOut instr environment heap → is_call instr ≡ false
+calls_none-out (Var x e) environment heap out = absurd out
+calls_none-out (Drop x) environment heap out = absurd out
+calls_none-out (Assign x e) environment heap out = absurd out
+calls_none-out (ArrayLength x e) environment heap out = absurd out
+calls_none-out (ArrayList x es) environment heap out = absurd out
+calls_none-out (Store x index e) environment heap out = absurd out
+calls_none-out (Print e) environment heap out = absurd out
+calls_none-out (Read x) environment heap out = absurd out
+calls_none-out (Branch e a b) environment heap out = absurd out
+calls_none-out (Goto a) environment heap out = absurd out
+calls_none-out (Call x callee es) environment heap out = absurd out
+calls_none-out (Return e) environment heap out = absurd out
+calls_none-out Stop environment heap out = absurd out
+calls_none-out (Assume es exit) environment heap out = refl
+
+turns-leaves : (program : ProgramView) (frame : Frame) (exit : Exit) (s : State) → (leaves program frame exit s).turns ≡ s.turns
+turns-leaves program frame exit s = turns-given (landed_frames program frame s.heap (continuations exit)) (λ landed. record s { frames = replaces_top landed s.frames }) s (λ landed. refl)
+
+-- an assume that leaves takes a turn where it is no anchor
+turns-assumes : (program : ProgramView) (frame : Frame) (exit : Exit) (next : List ℕ) (s : State) → is_anchor frame.label ≡ false → (assumes program frame exit next false s).turns ≡ s.turns + 1
+turns-assumes program frame exit next s plain =
+    turns-leaves program frame exit (takes_exit_turn (is_anchor frame.label) s) ∙ ap (λ anchor. (takes_exit_turn anchor s).turns) plain
+
+turns-stays : (program : ProgramView) (frame : Frame) (exit : Exit) (next : List ℕ) (s : State) (outcome : Result Bool Trap) → (outcome ≡ Ok false → ⊥)
+    → (given outcome (λ holds. assumes program frame exit next (stays text_choice frame.label holds) s) s).turns ≡ s.turns
+turns-stays program frame exit next s (Ok true) inside = refl
+turns-stays program frame exit next s (Ok false) inside = absurd (inside refl)
+turns-stays program frame exit next s (Err trap) inside = refl
+
+-- a passed assume takes none
+pub turns_stays : (es : List Expr) (exit : Exit) → StaysWithoutTurn (Assume es exit)
+turns_stays es exit program frame next s inside = turns-stays program frame exit next s (holds_each frame.environment s.heap es) inside
+
+-- an instruction that leads out takes a turn where it is no anchor
+pub turns-out : (program : ProgramView) (frame : Frame) (instr : Instr) (next : List ℕ) (s : State) → is_anchor frame.label ≡ false → LeadsOut instr frame.environment s.heap
+    → (act program text_choice frame instr next s).turns ≡ s.turns + 1
+turns-out program frame (Var x e) next s plain out = absurd out
+turns-out program frame (Drop x) next s plain out = absurd out
+turns-out program frame (Assign x e) next s plain out = absurd out
+turns-out program frame (ArrayLength x e) next s plain out = absurd out
+turns-out program frame (ArrayList x es) next s plain out = absurd out
+turns-out program frame (Store x index e) next s plain out = absurd out
+turns-out program frame (Print e) next s plain out = absurd out
+turns-out program frame (Read x) next s plain out = absurd out
+turns-out program frame (Branch e a b) next s plain out = absurd out
+turns-out program frame (Goto a) next s plain out = absurd out
+turns-out program frame (Call x callee es) next s plain out = absurd out
+turns-out program frame (Return e) next s plain out = absurd out
+turns-out program frame Stop next s plain out = absurd out
+turns-out program frame (Assume es exit) next s plain out =
+    ap (λ (state : State). state.turns) (act-leaves program frame es exit next s out) ∙ turns-assumes program frame exit next s plain
+
+-- either way
+pub turns-crosses : (program : ProgramView) (frame : Frame) (instr : Instr) (next : List ℕ) (s : State) → is_anchor frame.label ≡ false → IsCrossing instr ⊎ LeadsOut instr frame.environment s.heap
+    → (act program text_choice frame instr next s).turns ≡ s.turns + 1
+turns-crosses program frame instr next s plain (inl crosses) = turns_crossing instr crosses program text_choice frame next s
+turns-crosses program frame instr next s plain (inr out) = turns-out program frame instr next s plain out

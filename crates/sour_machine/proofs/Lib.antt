@@ -3,6 +3,7 @@ mod HeapLaws
 mod ArrayLaws
 mod Operations
 mod Instructions
+mod Checked
 mod Scopes
 mod Jumps
 mod FrameLaws
@@ -10,3 +11,6 @@ mod RunLaws
 mod Measure
 mod Advances
 mod CallLaws
+mod LeavingLaws
+mod MainLaws
+mod ExitLaws

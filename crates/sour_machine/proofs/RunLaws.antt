@@ -1,7 +1,7 @@
 -- Runs that go on.
-use Rattle.std.proofs.Common.{◌≡◌, ℕ, zero, suc, ◌+◌, ◌≤◌, List, true, cond, Result, Ok, Err, length, refl, ap, ◌∙◌, arith}
+use Rattle.std.proofs.Common.{◌≡◌, ℕ, zero, suc, ◌+◌, List, Bool, true, false, None, cond, Result, Ok, Err, refl, ap, ◌∙◌, arith}
+use Rattle.std.specs.Prelude.{◌&&◌, is_none}
 use Rattle.std.specs.Result.{OnErr}
-use Rattle.std.proofs.lemmas.Bool.{lt-ltb, le-ltb}
 use Rattle.sour_syntax.specs.declared.literal.Literal.{Literal}
 use Rattle.sour_syntax.specs.Program.{ProgramView}
 use Rattle.sour_semantics.specs.State.{State}
@@ -10,13 +10,21 @@ use Rattle.sour_semantics.specs.Run.{text_run}
 use Rattle.sour_machine.specs.declared.moment.Moment.{Moment}
 use Rattle.sour_machine.specs.declared.report.End.TheVariants.{Cut, Memory}
 use Rattle.sour_machine.specs.Moment.{state_at, run_at}
-use Rattle.sour_machine.specs.Run.{GoesOn, entered_by, count_calls}
-use Rattle.sour_machine.proofs.FrameLaws.{length-frames_at}
+use Rattle.sour_machine.specs.Run.{GoesOn, top_calls, entered_by, count_calls}
 
 -- what holds whatever the result is
 pub OnErr-any : {X E : Type 0} {P : Type 0} (outcome : Result X E) → P → OnErr outcome P
 OnErr-any (Ok value) holds = tt {0}
 OnErr-any (Err why) holds = holds
+
+none : (going on : Bool) → ◌≡◌ {A = ℕ} (cond (going && on && false) 1 0) 0
+none true true = refl
+none true false = refl
+none false on = refl
+
+none_over : (going calls : Bool) → ◌≡◌ {A = ℕ} (cond (going && false && calls) 1 0) 0
+none_over true calls = refl
+none_over false calls = refl
 
 -- some steps and then others
 text_run-add : (program : ProgramView) (m n : ℕ) (s : State) → text_run program (m + n) s ≡ text_run program n (text_run program m s)
@@ -33,31 +41,32 @@ count_calls-add program zero n s =
 count_calls-add program (suc m) n s =
     let next = step program text_choice s in
     let one : suc m + n ≡ suc (m + n) = omega arith in
-    let first : count_calls program (suc m + n) s ≡ entered_by s next + count_calls program (m + n) next = ap (λ count. count_calls program count s) one in
+    let first : count_calls program (suc m + n) s ≡ entered_by program s next + count_calls program (m + n) next = ap (λ count. count_calls program count s) one in
     let rest : count_calls program (m + n) next ≡ count_calls program m next + count_calls program n (text_run program m next) = count_calls-add program m n next in
     omega (arith, first, rest)
 
+-- a step from a line that is no call enters no frame
+pub entered-none : (program : ProgramView) (s next : State) → top_calls program s.frames ≡ false → entered_by program s next ≡ 0
+entered-none program s next other = ap (λ test. cond (is_none s.ending && is_none next.ending && test) 1 0) other ∙ none (is_none s.ending) (is_none next.ending)
+
+-- nor does one that ends the run
+pub entered-ended : (program : ProgramView) (s next : State) → is_none next.ending ≡ false → entered_by program s next ≡ 0
+entered-ended program s next over = ap (λ test. cond (is_none s.ending && test && top_calls program s.frames) 1 0) over ∙ none_over (is_none s.ending) (top_calls program s.frames)
+
+-- a call behind which the run goes on enters one
+pub entered-one : (program : ProgramView) (s next : State) → s.ending ≡ None → next.ending ≡ None → top_calls program s.frames ≡ true → entered_by program s next ≡ 1
+entered-one program s next going on calls =
+    ap (λ ending. cond (is_none ending && is_none next.ending && top_calls program s.frames) 1 0) going
+    ∙ ap (λ ending. cond (is_none ending && top_calls program s.frames) 1 0) on
+    ∙ ap (λ test. cond test 1 0) calls
+
 module _ (program : ProgramView) (input : List Literal) where
-  -- a step that leaves no more frames enters none
-  pub entered-none : (old new : Moment) → length new.below ≤ length old.below → entered_by (state_at program input old) (state_at program input new) ≡ 0
-  entered-none old new fewer =
-      let before = length-frames_at program old.frame old.below in
-      let after = length-frames_at program new.frame new.below in
-      ap (λ test. cond test 1 0) (le-ltb (length (state_at program input old).frames) (length (state_at program input new).frames) (omega (arith, before, after)))
-
-  -- and one that leaves more enters one
-  pub entered-one : (old new : Moment) → length new.below ≡ length old.below + 1 → entered_by (state_at program input old) (state_at program input new) ≡ 1
-  entered-one old new more =
-      let before = length-frames_at program old.frame old.below in
-      let after = length-frames_at program new.frame new.below in
-      ap (λ test. cond test 1 0) (lt-ltb (length (state_at program input old).frames) (length (state_at program input new).frames) (omega (arith, before, after)))
-
   -- one step
   pub GoesOn-one : (old new : Moment) → step program text_choice (state_at program input old) ≡ state_at program input new
-      → new.calls ≡ old.calls + entered_by (state_at program input old) (state_at program input new) → GoesOn (run_at program input true old) (run_at program input true new)
+      → new.calls ≡ old.calls + entered_by program (state_at program input old) (state_at program input new) → GoesOn (run_at program input true old) (run_at program input true new)
   GoesOn-one old new stepped counted =
-      let same : entered_by (state_at program input old) (step program text_choice (state_at program input old)) ≡ entered_by (state_at program input old) (state_at program input new) =
-      ap (entered_by (state_at program input old)) stepped in
+      let same : entered_by program (state_at program input old) (step program text_choice (state_at program input old)) ≡ entered_by program (state_at program input old) (state_at program input new) =
+      ap (entered_by program (state_at program input old)) stepped in
       record {
         program = refl;
         input = refl;

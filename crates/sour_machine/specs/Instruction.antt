@@ -1,18 +1,19 @@
 -- What the code of an instruction does to a moment of a run.
-use Rattle.std.specs.Prelude.{◌≡◌, ℕ, ◌+◌, ◌<◌, ◌≤◌, List, [], ◌∷◌, ◌++◌, true, None, Some, length, Contains, slice_get, slice_set}
+use Rattle.std.specs.Prelude.{◌≡◌, ◌⊎◌, ℕ, ◌+◌, ◌<◌, ◌≤◌, List, [], ◌∷◌, ◌++◌, true, false, None, Some, Ok, length, Contains, slice_get, slice_set}
 use Rattle.std.specs.List.{AllByRecursion}
 use Rattle.sour_syntax.specs.declared.instruction.Instr.{Instr}
-use Rattle.sour_syntax.specs.declared.instruction.Instr.TheVariants.{Var, Drop, Assign, ArrayLength, ArrayList, Store, Print, Read, Branch, Goto, Call, Return, Stop}
+use Rattle.sour_syntax.specs.declared.instruction.Instr.TheVariants.{Var, Drop, Assign, ArrayLength, ArrayList, Store, Print, Read, Branch, Goto, Call, Return, Stop, Assume}
 use Rattle.sour_syntax.specs.declared.instruction.Line.{Line}
 use Rattle.sour_syntax.specs.declared.literal.Literal.{Literal}
 use Rattle.sour_syntax.specs.declared.literal.VarId.{VarId}
 use Rattle.sour_syntax.specs.Labels.{label_at}
 use Rattle.sour_syntax.specs.Program.{ProgramView}
 use Rattle.sour_syntax.specs.Scopes.{IsInScope, needed, mentioned, scope_after}
-use Rattle.sour_semantics.specs.State.{Environment, Frame, State}
+use Rattle.sour_semantics.specs.State.{Environment, Heap, Frame, State}
+use Rattle.sour_semantics.specs.Evaluation.{holds_each}
 use Rattle.sour_semantics.specs.Step.{Choice, text_choice, act}
 use Rattle.sour_semantics.specs.Validity.{scope_of}
-use Rattle.sour_machine.specs.declared.frame.Waiting.{Waiting}
+use Rattle.sour_machine.specs.declared.activation.Waiting.{Waiting}
 use Rattle.sour_machine.specs.declared.moment.Moment.{Moment}
 use Rattle.sour_machine.specs.declared.report.End.{End}
 use Rattle.sour_machine.specs.declared.report.End.TheVariants.{Returned, Stopped, Trapped, Cut, Memory}
@@ -29,7 +30,7 @@ abbrev pub ActsAs : ProgramView → List Literal → Instr → Moment → Moment
 ActsAs program input instr old new =
     state_at program input new ≡ act program text_choice (frame_at program old.frame None) instr (label_at (frame_lines program old.frame) (old.frame.place + 1)) (state_at program input old)
 
--- it is one that enters a frame or leaves one
+-- it is a call or a return
 abbrev pub IsCrossing : Instr → Type 0
 IsCrossing (Var x e) = ⊥
 IsCrossing (Drop x) = ⊥
@@ -44,6 +45,7 @@ IsCrossing (Goto a) = ⊥
 IsCrossing (Call x callee es) = Unit {0}
 IsCrossing (Return e) = Unit {0}
 IsCrossing Stop = ⊥
+IsCrossing (Assume es exit) = ⊥
 
 -- the run goes on in the same frame at one of these places, with the scope that the instruction leaves of this environment
 pub record GoesFurther (instr : Instr) (places : List ℕ) (environment : Environment) (new : Moment) : Type 0 where
@@ -103,6 +105,29 @@ pub record Leaves (program : ProgramView) (old new : Moment) : Type 0 where
   pub fewer : length new.below ≤ length old.below
   pub calls : new.calls ≡ old.calls
 
+-- a frame was left by an exit: the new top one stands at its line, and where each frame below stood at its line, each that is below now does
+pub record LeavesBy (program : ProgramView) (old new : Moment) : Type 0 where
+  pub top : new.end ≡ Cut → StandsAtLine program new.frame None
+  pub below : AllByRecursion (StandsWaiting program) old.below → AllByRecursion (StandsWaiting program) new.below
+  pub calls : new.calls ≡ old.calls
+
+-- it is an assume whose predicates lead to its exit
+abbrev pub LeadsOut : Instr → Environment → Heap → Type 0
+LeadsOut (Var x e) environment heap = ⊥
+LeadsOut (Drop x) environment heap = ⊥
+LeadsOut (Assign x e) environment heap = ⊥
+LeadsOut (ArrayLength x e) environment heap = ⊥
+LeadsOut (ArrayList x es) environment heap = ⊥
+LeadsOut (Store x index e) environment heap = ⊥
+LeadsOut (Print e) environment heap = ⊥
+LeadsOut (Read x) environment heap = ⊥
+LeadsOut (Branch e a b) environment heap = ⊥
+LeadsOut (Goto a) environment heap = ⊥
+LeadsOut (Call x callee es) environment heap = ⊥
+LeadsOut (Return e) environment heap = ⊥
+LeadsOut Stop environment heap = ⊥
+LeadsOut (Assume es exit) environment heap = holds_each environment heap es ≡ Ok false
+
 -- what an instruction that enters a frame or leaves one did to the frames
 abbrev pub CrossesTo : ProgramView → Instr → Moment → Moment → Type 0
 CrossesTo program (Var x e) old new = ⊥
@@ -118,6 +143,7 @@ CrossesTo program (Goto a) old new = ⊥
 CrossesTo program (Call x callee es) old new = EntersOr program x old new new.end
 CrossesTo program (Return e) old new = Leaves program old new
 CrossesTo program Stop old new = ⊥
+CrossesTo program (Assume es exit) old new = LeavesBy program old new
 
 -- the run goes on at a line that enters a frame or leaves one, and has turns left for it
 pub record StandsCrossing (program : ProgramView) (budget : ℕ) (moment : Moment) : Type 0 where
@@ -125,7 +151,7 @@ pub record StandsCrossing (program : ProgramView) (budget : ℕ) (moment : Momen
   pub left : moment.turns < budget
   pub line : Line
   pub found : slice_get (frame_lines program moment.frame) moment.frame.place ≡ Some line
-  pub crosses : IsCrossing line.instr
+  pub crosses : IsCrossing line.instr ⊎ LeadsOut line.instr moment.frame.env moment.heap
 
 -- an instruction takes a turn, wherever it stands
 abbrev pub AlwaysTakesTurn : Instr → Type 0
@@ -133,8 +159,8 @@ AlwaysTakesTurn instr =
     (program : ProgramView) (choice : Choice) (frame : Frame) (next : List ℕ) (s : State)
     → (act program choice frame instr next s).turns ≡ s.turns + 1
 
--- an instruction takes no turn, wherever it stands
-abbrev pub NeverTakesTurn : Instr → Type 0
-NeverTakesTurn instr =
-    (program : ProgramView) (choice : Choice) (frame : Frame) (next : List ℕ) (s : State)
-    → (act program choice frame instr next s).turns ≡ s.turns
+-- a run of the text takes no turn at an instruction, wherever that stands, unless its predicates lead to its exit
+abbrev pub StaysWithoutTurn : Instr → Type 0
+StaysWithoutTurn instr =
+    (program : ProgramView) (frame : Frame) (next : List ℕ) (s : State)
+    → (LeadsOut instr frame.environment s.heap → ⊥) → (act program text_choice frame instr next s).turns ≡ s.turns

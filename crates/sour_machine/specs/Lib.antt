@@ -3,7 +3,11 @@ pub mod Scope
 pub mod Operands
 pub mod Cells
 pub mod Text
+pub mod Leaving
 pub mod Frame
 pub mod Run
 pub mod Moment
 pub mod Instruction
+pub mod Landing
+pub mod MainLines
+pub mod MainExits

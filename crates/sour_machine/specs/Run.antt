@@ -1,6 +1,6 @@
-use Rattle.std.specs.Prelude.{◌≡◌, ◌⊎◌, ◌+◌, ℕ, zero, suc, List, ◌∷◌, Bool, true, false, None, IsSome, IsTrue, length, nat_lt, if◌then◌else◌}
+use Rattle.std.specs.Prelude.{◌≡◌, ◌⊎◌, ◌+◌, ℕ, zero, suc, List, ◌∷◌, Bool, true, false, None, ◌&&◌, [], is_none, IsSome, IsTrue, if◌then◌else◌}
 use Rattle.sour_syntax.specs.declared.instruction.Instr.{Instr}
-use Rattle.sour_syntax.specs.declared.instruction.Instr.TheVariants.{Var, Drop, Assign, ArrayLength, ArrayList, Store, Print, Read, Branch, Goto, Call, Return, Stop}
+use Rattle.sour_syntax.specs.declared.instruction.Instr.TheVariants.{Var, Drop, Assign, ArrayLength, ArrayList, Store, Print, Read, Branch, Goto, Call, Return, Stop, Assume}
 use Rattle.sour_syntax.specs.declared.instruction.Line.{Line}
 use Rattle.sour_syntax.specs.declared.literal.Literal.{Literal}
 use Rattle.sour_syntax.specs.Labels.{from_label}
@@ -23,15 +23,42 @@ pub record RunView : Type 0 where
   -- how many frames were entered
   pub calls : ℕ
 
--- a step enters a frame where it leaves more of them
-abbrev pub entered_by : State → State → ℕ
-entered_by s next = if nat_lt (length s.frames) (length next.frames) then 1 else 0
+-- the instruction calls a function
+abbrev pub is_call : Instr → Bool
+is_call (Var x e) = false
+is_call (Drop x) = false
+is_call (Assign x e) = false
+is_call (ArrayLength x e) = false
+is_call (ArrayList x es) = false
+is_call (Store x index e) = false
+is_call (Print e) = false
+is_call (Read x) = false
+is_call (Branch e a b) = false
+is_call (Goto a) = false
+is_call (Call x callee es) = true
+is_call (Return e) = false
+is_call Stop = false
+is_call (Assume es exit) = false
+
+-- the first of the lines that are left calls a function
+abbrev pub first_calls : List Line → Bool
+first_calls [] = false
+first_calls (line ∷ lines) = is_call line.instr
+
+-- the top frame stands at a call
+abbrev pub top_calls : ProgramView → List Frame → Bool
+top_calls program [] = false
+top_calls program (frame ∷ frames) = first_calls (from_label frame.label (lines_of program frame.code))
+
+-- a step enters a frame where it is a call and the run goes on behind it
+abbrev pub entered_by : ProgramView → State → State → ℕ
+entered_by program s next = if is_none s.ending && is_none next.ending && top_calls program s.frames then 1 else 0
 
 -- how many frames a run of the text enters in so many steps from a state
 abbrev pub count_calls : ProgramView → ℕ → State → ℕ
 count_calls program zero s = 0
 count_calls program (suc count) s =
-    entered_by s (step program text_choice s) + count_calls program count (step program text_choice s)
+    entered_by program s (step program text_choice s) + count_calls program count (step program text_choice s)
 
 -- whether main was entered, by whether it had been before and has been since
 abbrev pub main_entered : Bool → Bool → ℕ
@@ -67,7 +94,7 @@ abbrev pub IsAtRest : RunView → Type 0
 IsAtRest run =
     IsTrue run.wanting ⊎ (IsTrue run.entered × (IsSome run.state.ending ⊎ TakesTurn run.program run.state))
 
--- the instruction takes memory: it writes, makes an array or enters a frame
+-- the instruction takes memory: it writes, makes an array, enters a frame or leaves by an exit
 abbrev pub TakesMemory : Instr → Type 0
 TakesMemory (Var x e) = ⊥
 TakesMemory (Drop x) = ⊥
@@ -82,6 +109,7 @@ TakesMemory (Goto a) = ⊥
 TakesMemory (Call x callee es) = Unit {0}
 TakesMemory (Return e) = ⊥
 TakesMemory Stop = ⊥
+TakesMemory (Assume es exit) = Unit {0}
 
 -- the line at which the top frame of the run stands is one that takes memory
 pub record StandsWanting (run : RunView) : Type 0 where

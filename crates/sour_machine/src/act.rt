@@ -1,6 +1,7 @@
 //! The instructions that stay in their frame.
 
-ghost use Rattle.std.specs.Prelude.{◌≡◌, ◌+◌, ◌^◌, ◌<◌, ◌≤◌, ℕ, List, [], ◌∷◌, Ok, length, OnOk, OnErr, MatchBool};
+ghost use Rattle.std.specs.Prelude.{◌≡◌, ◌+◌, ◌^◌, ◌<◌, ◌≤◌, ℕ, List, [], ◌∷◌, true, false, Ok, length, OnOk, OnErr, MatchBool};
+ghost use Rattle.sour_syntax.specs.declared.exit.Exit.{Exit};
 ghost use Rattle.sour_syntax.specs.declared.expression.Expr.{Expr};
 ghost use Rattle.sour_syntax.specs.declared.literal.Literal.{Literal};
 ghost use Rattle.sour_syntax.specs.Jumps.{GoesTo};
@@ -8,27 +9,28 @@ ghost use Rattle.sour_syntax.specs.Labels.{IsPlaceOf};
 ghost use Rattle.sour_syntax.specs.Program.{ProgramView};
 ghost use Rattle.sour_syntax.specs.Scopes.{IsInScope};
 ghost use Rattle.sour_syntax.specs.Spread.{following};
-ghost use Rattle.sour_semantics.specs.Evaluation.{truth_in};
+ghost use Rattle.sour_semantics.specs.Evaluation.{truth_in, holds_each};
 ghost use Rattle.sour_semantics.specs.Step.{branches};
 ghost use Rattle.sour_semantics.specs.Validity.{scope_of};
-ghost use Rattle.sour_machine.specs.Scope.{HasValues};
+ghost use Rattle.sour_machine.specs.Scope.{HasValues, HasValuesOfEach};
 ghost use Rattle.sour_machine.specs.Frame.{frame_lines};
 ghost use Rattle.sour_machine.specs.Moment.{state_at};
-ghost use Rattle.sour_machine.specs.Run.{TakesMemory};
-ghost use Rattle.sour_machine.specs.Instruction.{IsReady, ActsAs, IsCrossing, ComesTo, StaysInFrame, AlwaysTakesTurn, NeverTakesTurn};
+ghost use Rattle.sour_machine.specs.Run.{TakesMemory, is_call};
+ghost use Rattle.sour_machine.specs.Instruction.{IsReady, ActsAs, IsCrossing, LeadsOut, ComesTo, StaysInFrame, AlwaysTakesTurn, StaysWithoutTurn};
 
 use crate::arrays::{make_empty, make_list, store};
 use crate::evaluation::eval;
 use crate::moment::Moment;
+use crate::predicates::holds_each;
 use crate::report::End;
 use crate::text::{count_cells, value_head, value_middle, value_tail};
 use itoa::Buffer;
 use sour_syntax::{Expr, Instr, Jump, Literal, Program, Trap, Value, VarId};
 use std::alloc::{AllocError, Global};
 
-/// Whether an instruction takes a turn.
+/// Whether an instruction takes a turn, whatever comes of it. Where it doesn't, only leaving takes one.
 pub(crate) fn takes_turn(instr: &Instr) -> bool
-    ensures { MatchBool result (AlwaysTakesTurn instr.now) (NeverTakesTurn instr.now) }
+    ensures { MatchBool result (AlwaysTakesTurn instr.now) (StaysWithoutTurn instr.now) }
 {
     match instr {
         Instr::Branch(..) | Instr::Goto(_) | Instr::Call(..) | Instr::Return(_) => true,
@@ -40,7 +42,8 @@ pub(crate) fn takes_turn(instr: &Instr) -> bool
         | Instr::Store(..)
         | Instr::Print(_)
         | Instr::Read(_)
-        | Instr::Stop => false,
+        | Instr::Stop
+        | Instr::Assume(..) => false,
     }
 }
 
@@ -49,13 +52,15 @@ pub(crate) fn takes_turn(instr: &Instr) -> bool
 pub(crate) enum Acted {
     /// It was carried out, in its frame.
     Inside,
-    /// Nothing was done: it enters a frame or leaves one.
+    /// Nothing was done: it is a call or a return.
     Crossing,
+    /// Nothing was done: its predicates lead to its exit.
+    Leaving,
 }
 
 /// Carries out one instruction of a run on this input, or none where memory is wanting. The jump has the
 /// places of the labels that the instruction names. Of an instruction that enters a frame or leaves one it
-/// says so, and does nothing.
+/// says so, and does nothing. An assume whose predicates hold takes no turn.
 ///
 /// Most instructions set a variable or jump. The functions of the others aren't inlined, so the loop stays
 /// small.
@@ -75,7 +80,10 @@ pub(crate) fn act(
     requires goes { GoesTo (frame_lines program.now moment.old.frame) instr.now jump }
     ensures inside { result ≡ Ok Acted.Inside → ActsAs program.now input.now instr.now moment.old moment.new }
     ensures comes { result ≡ Ok Acted.Inside → ComesTo instr.now (following instr.now jump (moment.old.frame.place + 1)) moment.old.frame.env moment.new moment.new.end }
+    ensures enters_none { result ≡ Ok Acted.Inside → is_call instr.now ≡ false }
+    ensures leaves_none { result ≡ Ok Acted.Inside → ¬ LeadsOut instr.now moment.old.frame.env moment.old.heap }
     ensures crossing { result ≡ Ok Acted.Crossing → IsCrossing instr.now × (moment.new ≡ moment.old) }
+    ensures leaving { result ≡ Ok Acted.Leaving → LeadsOut instr.now moment.old.frame.env moment.old.heap × (moment.new ≡ moment.old) }
     ensures stays { StaysInFrame moment.old moment.new }
     ensures within { moment.new.read ≤ length input.now }
     ensures err { OnErr result (moment.new ≡ moment.old) }
@@ -93,6 +101,11 @@ pub(crate) fn act(
         Instr::Goto(_) => goto(moment, jump),
         Instr::Call(..) | Instr::Return(_) => return Ok(Acted::Crossing),
         Instr::Stop => stop(moment),
+        Instr::Assume(predicates, _) => {
+            if !stays(moment, predicates.as_slice()) {
+                return Ok(Acted::Leaving);
+            }
+        }
     }
     Ok(Acted::Inside)
 }
@@ -250,4 +263,26 @@ fn stop(moment: &mut Moment)
     ensures reads { moment.new.read ≡ moment.old.read }
 {
     moment.end = End::Stopped;
+}
+
+/// Goes on to the next line where each predicate holds, and ends the run where one traps. Where one is
+/// false it says so, and does nothing.
+#[inline(never)]
+fn stays(moment: &mut Moment, predicates: &[Expr]) -> bool
+    requires going { moment.old.end ≡ End.Cut }
+    requires place { moment.old.frame.place + 1 < 2 ^ 64 }
+    requires values { HasValuesOfEach moment.old.frame.env predicates.now }
+    ensures acts { result ≡ true → (program : ProgramView) (input : List Literal) (exit : Exit) → ActsAs program input (Instr.Assume predicates.now exit) moment.old moment.new }
+    ensures comes { result ≡ true → (exit : Exit) → ComesTo (Instr.Assume predicates.now exit) ((moment.old.frame.place + 1) ∷ []) moment.old.frame.env moment.new moment.new.end }
+    ensures holds { result ≡ true → ¬ (holds_each moment.old.frame.env moment.old.heap predicates.now ≡ Ok false) }
+    ensures leaves { result ≡ false → (holds_each moment.old.frame.env moment.old.heap predicates.now ≡ Ok false) × (moment.new ≡ moment.old) }
+    ensures stays { StaysInFrame moment.old moment.new }
+    ensures reads { moment.new.read ≡ moment.old.read }
+{
+    match holds_each(&moment.frame.env, &moment.heap, predicates) {
+        Ok(true) => moment.frame.place += 1,
+        Ok(false) => return false,
+        Err(trap) => moment.end = End::Trapped(trap),
+    }
+    true
 }

@@ -1,7 +1,7 @@
 ghost use Rattle.std.specs.Prelude.{◌≡◌, ◌≢◌, ◌<◌, ◌≤◌, List, Ok, Some, true, IsSome, IfOk, OnOk, OnErr};
 ghost use Rattle.sour_syntax.specs.declared.literal.Literal.{Literal};
-ghost use Rattle.sour_syntax.specs.declared.program.Version.{Version};
-ghost use Rattle.sour_semantics.specs.Step.{version_of_code};
+ghost use Rattle.sour_syntax.specs.Program.{IsProgram};
+ghost use Rattle.sour_semantics.specs.Step.{body_at};
 ghost use Rattle.sour_machine.specs.Frame.{code_of};
 ghost use Rattle.sour_machine.specs.Moment.{run_at, Stands};
 ghost use Rattle.sour_machine.specs.Run.{GoesOn, IsAtTurns, Tells, StandsWanting};
@@ -37,11 +37,12 @@ fn advance_in_frame(
     moment: &mut Moment,
     budget: u64,
 ) -> Result<Pause, AllocError>
+    requires checked { IsProgram program.now }
     requires limit { budget ≤ 10000000 }
     requires within { moment.old.turns ≤ budget }
     requires going { moment.old.end ≡ End.Cut }
     requires stands { Stands program.now input.now moment.old }
-    requires runs { (version : Version) × (version_of_code program.now (code_of moment.old.frame.code) ≡ Some version) × (version.body ≡ body.now) }
+    requires runs { body_at program.now (code_of moment.old.frame.code) ≡ Some body.now }
     ensures goes_on { GoesOn (run_at program.now input.now true moment.old) (run_at program.now input.now true moment.new) }
     ensures code { moment.new.frame.code ≡ moment.old.frame.code }
     ensures within { moment.new.turns ≤ budget }
@@ -64,6 +65,8 @@ fn advance_in_frame(
         match act(alloc, program, moment, input, instr, jump)? {
             Acted::Inside => {}
             Acted::Crossing => return Ok(Pause::Crossing),
+            Acted::Leaving if moment.turns == budget => return Ok(Pause::MoreTurns),
+            Acted::Leaving => return Ok(Pause::Crossing),
         }
     }
     Ok(Pause::Ended)
@@ -78,6 +81,7 @@ fn advance_frame(
     rows: &mut SpareRows,
     budget: u64,
 ) -> Result<Pause, AllocError>
+    requires checked { IsProgram program.now }
     requires limit { budget ≤ 10000000 }
     requires within { moment.old.turns ≤ budget }
     requires going { moment.old.end ≡ End.Cut }
@@ -123,6 +127,8 @@ pub(crate) fn advance(
     ensures stands { Stands program.now input.now moment.new }
     ensures memory { result ≡ Advance.Memory → StandsWanting (run_at program.now input.now true moment.new) }
 {
+    // What this ensures is that the program is checked.
+    let _ = program.main();
     while let End::Cut = moment.end {
         match advance_frame(alloc, program, input, moment, rows, budget) {
             Ok(Pause::MoreTurns) => return Advance::MoreTurns,

@@ -1,26 +1,29 @@
 //! The instructions that enter a frame or leave one.
 
-ghost use Rattle.std.specs.Prelude.{◌≡◌, ◌+◌, ◌^◌, ◌<◌, ◌≤◌, List, Some, length, map, OnOk, OnErr};
+ghost use Rattle.std.specs.Prelude.{◌≡◌, ◌⊎◌, ◌+◌, ◌^◌, ◌<◌, ◌≤◌, List, [], Some, false, length, map, OnOk, OnErr};
 ghost use Rattle.std.specs.List.{AllByRecursion};
 ghost use Rattle.sour_syntax.specs.declared.literal.Literal.{Literal};
 ghost use Rattle.sour_syntax.specs.declared.literal.Value.{Value};
-ghost use Rattle.sour_syntax.specs.declared.program.Version.{Version};
+ghost use Rattle.sour_syntax.specs.Exits.{continuations_of};
 ghost use Rattle.sour_syntax.specs.Labels.{label_at};
 ghost use Rattle.sour_syntax.specs.Program.{ProgramView};
 ghost use Rattle.sour_syntax.specs.Scopes.{IsInScope, simple_variables};
+ghost use Rattle.sour_syntax.specs.Targets.{IsNamed, Lands};
 ghost use Rattle.sour_semantics.specs.Evaluation.{function_in};
-ghost use Rattle.sour_semantics.specs.Step.{text_version, version_of_code, takes_turn, enters, calls, returns};
+ghost use Rattle.sour_semantics.specs.Step.{text_version, is_anchor, body_at, takes_turn, enters, calls, returns};
 ghost use Rattle.sour_semantics.specs.Validity.{scope_of};
 ghost use Rattle.sour_machine.specs.Scope.{HasValues, HasValuesOfEach};
 ghost use Rattle.sour_machine.specs.Frame.{code_of, frame_lines};
 ghost use Rattle.sour_machine.specs.Moment.{state_at};
 ghost use Rattle.sour_machine.specs.Run.{TakesMemory};
-ghost use Rattle.sour_machine.specs.Instruction.{IsReady, ActsAs, IsCrossing, EntersOr, HasPlaces, Leaves, CrossesTo};
+ghost use Rattle.sour_machine.specs.Instruction.{IsReady, ActsAs, IsCrossing, LeadsOut, EntersOr, HasPlaces, Leaves, CrossesTo};
 
+use crate::activation::{Activation, Waiting};
 use crate::env::Env;
 use crate::evaluation::{eval, operand};
 use crate::evaluations::row_of;
-use crate::frame::{Frame, FrameCode, Waiting};
+use crate::frame::FrameCode;
+use crate::leaving::leave_by;
 use crate::moment::Moment;
 use crate::report::End;
 use crate::spare_rows::SpareRows;
@@ -53,18 +56,16 @@ fn push_frame(
     requires calls { moment.old.calls + 1 < 2 ^ 64 }
     requires parameters { length row ≡ body.now.parameters }
     requires within { body.now.parameters ≤ length body.now.variables }
-    ensures enters { OnOk result ((program : ProgramView) (input : List Literal) (version : Version) (values : List Value)
-        → version_of_code program (code_of code) ≡ Some version → version.body ≡ body.now → row ≡ map Some values
-        → state_at program input moment.new ≡ enters x (code_of code) (Some version) values (label_at (frame_lines program moment.old.frame) (moment.old.frame.place + 1)) (takes_turn (state_at program input moment.old))) }
-    ensures stands { OnOk result ((program : ProgramView) (version : Version) (values : List Value)
-        → version_of_code program (code_of code) ≡ Some version → version.body ≡ body.now → row ≡ map Some values
+    ensures enters { OnOk result ((program : ProgramView) (input : List Literal) (values : List Value) → body_at program (code_of code) ≡ Some body.now → row ≡ map Some values
+        → state_at program input moment.new ≡ enters x (code_of code) (Some body.now) values (label_at (frame_lines program moment.old.frame) (moment.old.frame.place + 1)) (takes_turn (state_at program input moment.old))) }
+    ensures stands { OnOk result ((program : ProgramView) (values : List Value) → body_at program (code_of code) ≡ Some body.now → row ≡ map Some values
         → EntersOr program x moment.old moment.new moment.new.end) }
     ensures reads { moment.new.read ≡ moment.old.read }
     ensures err { OnErr result (moment.new ≡ moment.old) }
 {
     let mut env = row;
     env.extend_to(body.variables().len())?;
-    let callee = Frame {
+    let callee = Activation {
         code,
         place: 0,
         env,
@@ -196,7 +197,8 @@ fn return_value(moment: &mut Moment, rows: &mut SpareRows, expr: &Expr)
     }
 }
 
-/// Carries out a `call` or a `return`, or none where memory is wanting, which only a `call` takes.
+/// Carries out a `call` or a `return`, or leaves by the exit of an assume whose predicates lead there. Where
+/// memory is wanting, which a `return` never takes, nothing is done.
 pub(crate) fn cross(
     alloc: Global,
     program: &Program,
@@ -208,8 +210,11 @@ pub(crate) fn cross(
     requires place { moment.old.frame.place + 1 < 2 ^ 64 }
     requires turns { moment.old.turns + 1 < 2 ^ 64 }
     requires calls { moment.old.calls + 1 < 2 ^ 64 }
-    requires crossing { IsCrossing instr.now }
+    requires crossing { IsCrossing instr.now ⊎ LeadsOut instr.now moment.old.frame.env moment.old.heap }
     requires ready { IsReady instr.now moment.old.frame.env }
+    requires plain { is_anchor (label_at (frame_lines program.now moment.old.frame) moment.old.frame.place) ≡ false }
+    requires named { AllByRecursion (IsNamed program.now.functions []) (continuations_of instr.now) }
+    requires lands { AllByRecursion (Lands program.now.functions []) (continuations_of instr.now) }
     requires places { AllByRecursion HasPlaces moment.old.below }
     ensures acts { OnOk result ((input : List Literal) → ActsAs program.now input instr.now moment.old moment.new) }
     ensures stands { OnOk result (CrossesTo program.now instr.now moment.old moment.new) }
@@ -231,6 +236,7 @@ pub(crate) fn cross(
             )?;
         }
         Instr::Return(expr) => return_value(moment, rows, expr),
+        Instr::Assume(_, exit) => leave_by(alloc, program, moment, rows, exit)?,
         _ => {}
     }
     Ok(())

@@ -1,19 +1,18 @@
-//! Frames, and the code that they run.
+//! A frame of the language, and the code that it runs.
 
-ghost use Rattle.std.specs.Prelude.{◌≡◌, [], None, IfOk};
-ghost use Rattle.std.specs.Option.{option_copied, option_map};
-ghost use Rattle.sour_syntax.specs.declared.program.Version.{Version as Declared};
-ghost use Rattle.sour_semantics.specs.State.{text};
-ghost use Rattle.sour_semantics.specs.Step.{version_of_code, body_of, entered_frame};
-ghost use Rattle.sour_machine.specs.Frame.{code_of, frame_at, StandsAtLine};
+ghost use Rattle.std.specs.Prelude.{◌≡◌};
+ghost use Rattle.std.specs.Option.{option_copied};
+ghost use Rattle.sour_semantics.specs.Step.{body_at};
+ghost use Rattle.sour_machine.specs.Frame.{code_of};
+ghost use Rattle.sour_machine.specs.Landing.{number_of};
 
 use crate::env::Env;
-use sour_syntax::{Body, FunId, Program, VarId};
-use std::alloc::{AllocError, Global};
+use sour_syntax::{Body, FunId, Label, Program, VarId};
+use std::marker::Model;
 
 /// The code that a frame runs.
 #[derive(Clone, Copy, Debug, PartialEq, Eq)]
-pub(crate) enum FrameCode {
+pub enum FrameCode {
     /// A version of the text: its function, and its place among the versions, counted from 0.
     Text(FunId, u32),
 }
@@ -21,7 +20,7 @@ pub(crate) enum FrameCode {
 impl FrameCode {
     /// Its body; none exactly where the program has no such version.
     pub(crate) fn body<'a>(self, program: &'a Program) -> Option<&'a Body>
-        ensures { option_copied result ≡ option_map (λ (version : Declared). version.body) (version_of_code program.now (code_of self)) }
+        ensures { option_copied result ≡ body_at program.now (code_of self) }
     {
         let FrameCode::Text(function, version) = self;
         let function = program.function(function)?;
@@ -30,40 +29,63 @@ impl FrameCode {
     }
 }
 
-/// A frame that waits for nothing.
+/// An activation of a body. Contracts see the language's frame.
 #[derive(Drop)]
-pub(crate) struct Frame {
-    pub(crate) code: FrameCode,
-    /// The place of its next line, counted from 0.
-    pub(crate) place: usize,
-    /// Its variables.
-    pub(crate) env: Env,
+pub struct Frame {
+    code: FrameCode,
+    label: Label,
+    env: Env,
+    waits: Option<VarId>,
+}
+
+impl Model for Frame {
+    ghost use Rattle.sour_semantics.specs.State.{Frame as Activated};
+    ghost use Rattle.sour_machine.specs.Frame.{code_of};
+    ghost use Rattle.sour_machine.specs.Landing.{number_of};
+
+    ghost Value = { Activated };
+
+    ghost view = { λ frame. record { code = code_of frame.code; label = frame.label; environment = frame.env; waits = number_of frame.waits } };
 }
 
 impl Frame {
-    /// A frame of the text version of `main` at its first line, whose variables have no values.
-    pub(crate) fn of_main(alloc: Global, program: &Program) -> Result<Frame, AllocError>
-        ensures frame { IfOk result (λ frame. frame_at program.now frame None ≡ entered_frame (text program.now.main 0) (body_of program.now (text program.now.main 0)) []) }
-        ensures stands { IfOk result (λ frame. StandsAtLine program.now frame None) }
+    /// A frame of this code at the line with this label. It takes no memory.
+    pub fn new(code: FrameCode, label: Label, env: Env, waits: Option<VarId>) -> Frame
+        ensures { result ≡ record { code = code_of code; label = label; environment = env; waits = number_of waits } }
     {
-        let code = FrameCode::Text(program.main(), 0);
-        let Some(body) = code.body(program) else {
-            unreachable!();
-        };
-        let mut env = Env::new(alloc);
-        env.extend_to(body.variables().len())?;
-        Ok(Frame {
+        Frame {
             code,
-            place: 0,
+            label,
             env,
-        })
+            waits,
+        }
     }
-}
 
-/// A frame that waits for the result of the one above it.
-#[derive(Drop)]
-pub(crate) struct Waiting {
-    pub(crate) frame: Frame,
-    /// The variable that gets the result.
-    pub(crate) result: VarId,
+    /// The code that it runs.
+    pub fn code(&self) -> &FrameCode
+        ensures { code_of result.now ≡ self.now.code }
+    {
+        &self.code
+    }
+
+    /// The label of its next line.
+    pub fn label(&self) -> &Label
+        ensures { result.now ≡ self.now.label }
+    {
+        &self.label
+    }
+
+    /// Its variables.
+    pub fn env(&self) -> &Env
+        ensures { result.now ≡ self.now.environment }
+    {
+        &self.env
+    }
+
+    /// The variable that gets the result of the frame above it, if it waits for one.
+    pub fn waits(&self) -> Option<VarId>
+        ensures { number_of result ≡ self.now.waits }
+    {
+        self.waits
+    }
 }

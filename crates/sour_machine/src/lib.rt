@@ -3,6 +3,7 @@
 #![tactic(auto)]
 
 mod act;
+mod activation;
 mod advance;
 mod arithmetic;
 mod arrays;
@@ -13,8 +14,11 @@ mod evaluation;
 mod evaluations;
 mod frame;
 mod heap;
+mod landing;
+mod leaving;
 mod moment;
 mod output;
+mod predicates;
 mod report;
 mod run;
 mod spare_rows;
@@ -24,7 +28,9 @@ mod waiting_frames;
 
 pub use env::Env;
 pub use evaluation::eval;
+pub use frame::{Frame, FrameCode};
 pub use heap::Heap;
+pub use landing::{LeaveStop, leave};
 pub use report::{End, Report};
 pub use run::{Advance, Run};
 pub use text::{value_head, value_middle, value_tail, value_text};

@@ -1,7 +1,7 @@
 ghost use Rattle.std.specs.Prelude.{◌≡◌};
 ghost use Rattle.sour_machine.specs.End.{returned_cells};
 
-use crate::frame::Frame;
+use crate::activation::Activation;
 use crate::heap::Heap;
 use crate::output::Output;
 use crate::report::End;
@@ -12,7 +12,7 @@ use crate::waiting_frames::WaitingFrames;
 #[derive(Drop)]
 pub(crate) struct Moment {
     /// The top frame.
-    pub(crate) frame: Frame,
+    pub(crate) frame: Activation,
     /// The frames below it.
     pub(crate) below: WaitingFrames,
     pub(crate) heap: Heap,

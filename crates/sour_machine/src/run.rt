@@ -3,8 +3,8 @@ ghost use Rattle.sour_semantics.specs.Run.{start};
 ghost use Rattle.sour_machine.specs.End.{ending_of, returned_cells};
 ghost use Rattle.sour_machine.specs.Run.{GoesOn, Tells, IsAtRest, StandsWanting, main_entered};
 
+use crate::activation::Activation;
 use crate::advance::advance;
-use crate::frame::Frame;
 use crate::heap::Heap;
 use crate::moment::Moment;
 use crate::output::Output;
@@ -67,7 +67,7 @@ impl Run {
         }) }
     {
         let input = List::from_vec(Vec::from_slice(alloc, input)?);
-        let frame = Frame::of_main(alloc, &program)?;
+        let frame = Activation::of_main(alloc, &program)?;
         let moment = Moment {
             frame,
             below: WaitingFrames::new(alloc),
@@ -117,7 +117,8 @@ impl Run {
         // Want of memory is for good.
         ensures wanting { IsTrue self.old.wanting → self.new ≡ self.old }
 
-        // No other instructions take memory than those that write, make an array or enter a frame.
+        // No other instructions take memory than those that write, make an array, enter a frame or leave by an
+        // exit.
         ensures memory { result ≡ Advance.Memory → IsTrue self.old.wanting ⊎ StandsWanting self.new }
     {
         if let End::Memory = self.moment.end {

@@ -1,5 +1,6 @@
 //! Values of expressions, and runs of small programs.
 
+mod exits;
 mod programs;
 mod runs;
 mod values;

@@ -1,8 +1,8 @@
 //! The frames below the top one.
 
-ghost use Rattle.std.specs.Prelude.{◌≡◌, ◌+◌, ◌^◌, ◌<◌, ◌++◌, ◌∷◌, [], IfSome, IfNone, OnOk, OnErr};
+ghost use Rattle.std.specs.Prelude.{◌≡◌, ◌+◌, ◌^◌, ◌<◌, ◌++◌, ◌∷◌, [], reverse, IfSome, IfNone, OnOk, OnErr};
 
-use crate::frame::{Frame, Waiting};
+use crate::activation::{Activation, Waiting};
 use sour_syntax::VarId;
 use std::alloc::{AllocError, Global};
 use std::marker::Model;
@@ -16,7 +16,7 @@ pub(crate) struct WaitingFrames {
 
 impl Model for WaitingFrames {
     ghost use Rattle.std.specs.Prelude.{List};
-    ghost use Rattle.sour_machine.specs.declared.frame.Waiting.{Waiting};
+    ghost use Rattle.sour_machine.specs.declared.activation.Waiting.{Waiting};
 
     ghost Value = { List Waiting };
 
@@ -37,8 +37,8 @@ impl WaitingFrames {
     /// variable. Where memory is wanting nothing is done.
     pub(crate) fn push(
         &mut self,
-        top: &mut Frame,
-        callee: Frame,
+        top: &mut Activation,
+        callee: Activation,
         x: VarId,
     ) -> Result<(), AllocError>
         requires { top.old.place + 1 < 2 ^ 64 }
@@ -52,6 +52,17 @@ impl WaitingFrames {
         frame.place += 1;
         self.frames.push_reserved(Waiting { frame, result: x });
         Ok(())
+    }
+
+    /// Puts these frames below the top one, the one next to it first. Where memory is wanting nothing is
+    /// done.
+    pub(crate) fn append_reversed(&mut self, waiting: Vec<Waiting>) -> Result<(), AllocError>
+        ensures below { OnOk result (self.new ≡ self.old ++ reverse waiting.items) }
+        ensures same { OnErr result (self.new ≡ self.old) }
+    {
+        let mut waiting = waiting;
+        waiting.reverse();
+        self.frames.append(&mut waiting)
     }
 
     /// Takes the frame that waits next to the top.

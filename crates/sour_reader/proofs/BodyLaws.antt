@@ -4,7 +4,7 @@ use Rattle.std.specs.Prelude.{codes, IsTrue}
 use Rattle.std.specs.Str.{bytes_eq}
 use Rattle.std.proofs.lemmas.Bool.{false≢true}
 use Rattle.sour_reader.specs.declared.raw.RawInstr.{RawInstr}
-use Rattle.sour_reader.specs.declared.raw.RawInstr.TheVariants.{Var, Drop, Assign, ArrayLength, ArrayList, Store, Print, Read, Branch, Goto, Call, Return, Stop}
+use Rattle.sour_reader.specs.declared.raw.RawInstr.TheVariants.{Var, Drop, Assign, ArrayLength, ArrayList, Store, Print, Read, Branch, Goto, Call, Return, Stop, Assume}
 use Rattle.sour_reader.specs.declared.raw.RawLine.{RawLine}
 use Rattle.sour_reader.specs.declared.raw.RawVersion.{RawVersion}
 use Rattle.sour_reader.specs.Name.{is_reserved}
@@ -74,6 +74,7 @@ no_instr (Goto a) word tokens is known (whole, name) = other_word (codes "goto")
 no_instr (Call x callee es) word tokens is known (function, arguments, whole, name, first, second) = other_word (codes "call") is (first_is _ _ _ _ whole) refl refl
 no_instr (Return e) word tokens is known (value, whole, spelled) = other_word (codes "return") is (first_is _ _ _ _ whole) refl refl
 no_instr Stop word tokens is known whole = other_word (codes "stop") is (first_is _ _ _ _ whole) refl refl
+no_instr (Assume predicates exit) word tokens is known (each, back, whole, first, second) = other_word (codes "assume") is (first_is _ _ _ _ whole) refl refl
 
 both_reserved : (word : List ℕ) → (word ≡ codes "ver") ⊎ (word ≡ codes "end") → is_reserved word ≡ true
 both_reserved word (inl is) = ap is_reserved is

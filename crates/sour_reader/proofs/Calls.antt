@@ -5,9 +5,10 @@ use Rattle.std.proofs.lemmas.List.{append_cancel_right}
 use Rattle.sour_reader.specs.declared.raw.RawSimple.{RawSimple}
 use Rattle.sour_reader.specs.declared.raw.RawExpr.{RawExpr}
 use Rattle.sour_reader.specs.declared.raw.RawInstr.{RawInstr}
-use Rattle.sour_reader.specs.declared.raw.RawInstr.TheVariants.{Var, Drop, Assign, ArrayLength, ArrayList, Store, Print, Read, Branch, Goto, Call, Return, Stop}
+use Rattle.sour_reader.specs.declared.raw.RawInstr.TheVariants.{Var, Drop, Assign, ArrayLength, ArrayList, Store, Print, Read, Branch, Goto, Call, Return, Stop, Assume}
 use Rattle.sour_reader.specs.Name.{IsName}
-use Rattle.sour_reader.specs.Instruction.{SpellsSimple, SpellsEach, SpellsInstr}
+use Rattle.sour_reader.specs.Expression.{SpellsSimple, SpellsEach}
+use Rattle.sour_reader.specs.Instruction.{SpellsInstr}
 use Rattle.sour_reader.proofs.Found.{MadeOfThree}
 use Rattle.sour_reader.proofs.Expressions.{IsNameOf, OnlySplit}
 use Rattle.sour_reader.proofs.Instructions.{first_same, behind_first, differs, reserved}
@@ -48,6 +49,7 @@ calls tokens = to
         record { name = x; callee = callee; es = es; function = function; arguments = arguments; is = refl; whole = behind_first is ∙ ap (λ it. x ∷ codes "=" ∷ it) (append_assoc function (codes "(" ∷ arguments) (codes ")" ∷ [])); named = named; first = first; second = second }
     to (Return e) (value, is, spelled) = absurd (differs is refl)
     to Stop is = absurd (differs is refl)
+    to (Assume predicates exit) (each, back, is, first, second) = absurd (differs is refl)
 
 -- its parts
 pub call_parts : (name : List ℕ) (tokens function behind arguments : List (List ℕ)) → tokens ≡ function ++ behind → OnlySplit tokens function behind → behind ≡ in_parentheses arguments

@@ -1,19 +1,17 @@
 -- How expressions are read, operand by operand.
-use Rattle.std.proofs.Common.{◌≡◌, ℕ, false, None, List, [], ◌∷◌, ◌++◌, Option, Some, append-nil, refl, sym, ap, ◌∙◌, subst, rules}
+use Rattle.std.proofs.Common.{◌≡◌, ℕ, None, List, [], ◌∷◌, ◌++◌, Option, Some, append-nil, refl, sym, ap, ◌∙◌, subst, rules}
 use Rattle.std.specs.Prelude.{codes}
-use Rattle.std.specs.Str.{bytes_eq}
 use Rattle.std.specs.Option.{option_map}
 use Rattle.sour_tokens.specs.Token.{IsWord}
 use Rattle.sour_syntax.specs.declared.expression.Op.{Op}
-use Rattle.sour_syntax.specs.declared.expression.Op.TheVariants.{Add, Sub, Mul, Div, Rem, Eq, Ne, Lt, Le, Gt, Ge, And, Or}
 use Rattle.sour_reader.specs.Name.{IsName}
 use Rattle.sour_reader.specs.declared.raw.RawSimple.{RawSimple}
 use Rattle.sour_reader.specs.declared.raw.RawExpr.{RawExpr}
 use Rattle.sour_reader.specs.declared.raw.RawExpr.TheVariants.{Plain, Cell, Length, Not, Binary}
 use Rattle.sour_reader.specs.Operator.{op_spelling}
-use Rattle.sour_reader.specs.Instruction.{SpellsSimple, SpellsExpr}
+use Rattle.sour_reader.specs.Expression.{SpellsSimple, SpellsExpr}
 use Rattle.sour_reader.specs.Parts.{SplitsSo, BeginsOperand, SpellsAfter}
-use Rattle.sour_reader.proofs.Operands.{apart, BeginsNoOperand, no_operand_begins, no_empty_operand}
+use Rattle.sour_reader.proofs.Operands.{BeginsNoOperand, no_operand_begins, no_empty_operand}
 use Rattle.sour_reader.proofs.Found.{Finds, finds_none, finds_as, finds_made, none_found, found_holds, found_only}
 
 -- the first operand of an expression, and what is behind it
@@ -105,28 +103,6 @@ no_empty_expr (Length a) (operand, is, spelled) = cc
 no_empty_expr (Not a) (operand, is, spelled) = cc
 no_empty_expr (Binary op a b) ([], right, is, one, two) = cc
 no_empty_expr (Binary op a b) (first ∷ left, right, is, one, two) = cc
-
--- no operator is a comma
-pub no_comma_operator : (op : Op) → ¬ (op_spelling op ≡ codes ",")
-no_comma_operator op is = other (op_spelling op) (by_case op) is
-  where
-    other : (token : List ℕ) → bytes_eq token (codes ",") ≡ false → token ≡ codes "," → ⊥
-    other token test same = apart token (codes ",") same test
-
-    by_case : (it : Op) → bytes_eq (op_spelling it) (codes ",") ≡ false
-    by_case Add = refl
-    by_case Sub = refl
-    by_case Mul = refl
-    by_case Div = refl
-    by_case Rem = refl
-    by_case Eq = refl
-    by_case Ne = refl
-    by_case Lt = refl
-    by_case Le = refl
-    by_case Gt = refl
-    by_case Ge = refl
-    by_case And = refl
-    by_case Or = refl
 
 -- the token is this name
 abbrev pub IsNameOf : List ℕ → List ℕ → Type 0

@@ -84,3 +84,33 @@ three_found {A} {B} {C} {X} {made} {P} {Q} {R} {T} a b found is first second thi
 
     from : (x : X) → (c : C) × (x ≡ made a b c) × R c → T x
     from x (c, same, r) = subst T (sym same) (is.from a b c (found_holds P a first) (found_holds Q b second) r)
+
+-- nothing where no first is found
+pub three_no_first : {A B C X : Type 0} {made : A → B → C → X} {P : A → Type 0} {Q : B → Type 0} {R : C → Type 0} {T : X → Type 0} → MadeOfThree A B C X made P Q R T → Finds P None → Finds T None
+three_no_first {P = P} {T = T} is none = finds_none T (λ x t. let parts = is.to x t in none_found P none parts.0 parts.4)
+
+-- or no second
+pub three_no_second : {A B C X : Type 0} {made : A → B → C → X} {P : A → Type 0} {Q : B → Type 0} {R : C → Type 0} {T : X → Type 0} → MadeOfThree A B C X made P Q R T → Finds Q None → Finds T None
+three_no_second {Q = Q} {T = T} is none = finds_none T (λ x t. let parts = is.to x t in none_found Q none parts.1 parts.5)
+
+-- T says of what is made of two things what P and Q say of these
+pub record MadeOfTwo (A B X : Type 0) (made : A → B → X) (P : A → Type 0) (Q : B → Type 0) (T : X → Type 0) : Type 0 where
+  pub to : (x : X) → T x → (a : A) × (b : B) × (x ≡ made a b) × P a × Q b
+  pub from : (a : A) (b : B) → P a → Q b → T (made a b)
+
+-- what is made of two things that are found
+pub two_found : {A B X : Type 0} {made : A → B → X} {P : A → Type 0} {Q : B → Type 0} {T : X → Type 0} (a : A) (found : Option B) → MadeOfTwo A B X made P Q T
+    → Finds P (Some a) → Finds Q found → Finds T (option_map (made a) found)
+two_found {A} {B} {X} {made} {P} {Q} {T} a found is first second = finds_made Q T (made a) found second (λ x. (to x, from x))
+  where
+    to : (x : X) → T x → (b : B) × (x ≡ made a b) × Q b
+    to x t =
+        let parts = is.to x t in
+        (parts.1, parts.2 ∙ ap (λ it. made it parts.1) (found_only P a parts.0 first parts.3), parts.4)
+
+    from : (x : X) → (b : B) × (x ≡ made a b) × Q b → T x
+    from x (b, same, q) = subst T (sym same) (is.from a b (found_holds P a first) q)
+
+-- nothing where no first is found
+pub two_no_first : {A B X : Type 0} {made : A → B → X} {P : A → Type 0} {Q : B → Type 0} {T : X → Type 0} → MadeOfTwo A B X made P Q T → Finds P None → Finds T None
+two_no_first {P = P} {T = T} is none = finds_none T (λ x t. let parts = is.to x t in none_found P none parts.0 parts.3)

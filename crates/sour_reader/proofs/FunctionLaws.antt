@@ -1,12 +1,12 @@
 -- How the functions of a text are read.
-use Rattle.std.proofs.Common.{◌≡◌, ℕ, List, [], ◌∷◌, refl, sym, ◌∙◌}
+use Rattle.std.proofs.Common.{◌≡◌, ℕ, List, [], ◌∷◌, refl, sym, ◌∙◌, subst, inl, inr}
 use Rattle.std.specs.Prelude.{codes}
 use Rattle.sour_reader.specs.declared.raw.RawVersion.{RawVersion}
 use Rattle.sour_reader.specs.declared.raw.RawFunction.{RawFunction}
 use Rattle.sour_reader.specs.declared.heading.FunctionHeading.{FunctionHeading}
 use Rattle.sour_reader.specs.Job.{function_end}
 use Rattle.sour_reader.specs.Ahead.{AheadView, FollowNext, AreLeft, ReadsAs, ReadsAsNone, OneLine}
-use Rattle.sour_reader.specs.Front.{HasVersions, IsFunctionHeading, heading_of, HasFunction, AreBehindFunctions, EndFunctions}
+use Rattle.sour_reader.specs.Front.{HasVersions, IsFunctionHeading, heading_of, HasFunction, NoneOr, EndOr, IsHeading, AreBehindFunctions, EndFunctions}
 use Rattle.sour_reader.proofs.Readings.{Passes, GoesOn, reads_both, reads_none_first, reads_none_second, reads_before, reads_none_before}
 use Rattle.sour_reader.proofs.BodyLaws.{first_is}
 use Rattle.sour_reader.proofs.Operands.{apart}
@@ -40,26 +40,39 @@ function_no_end old mid last heading versions first all none =
     reads_none_second (OneLine IsFunctionHeading) ToEnd heading_of (λ (function : RawFunction). function.versions) old mid heading first
     (reads_none_before (HasVersions heading.parameters) mid last versions function_end all none)
 
-ends_from : (next : List (List ℕ)) (rest : List ℕ) → AreBehindFunctions next → (lines : Lines) → FollowNext next rest lines → EndFunctions lines
-ends_from next rest behind [] left = tt
-ends_from [] rest behind (line ∷ others) left = absurd (let is : line ∷ others ≡ [] = left in cc)
-ends_from (token ∷ tokens) rest behind (line ∷ others) (those, is, has) = let same : line ≡ token ∷ tokens = cc in same ∙ behind
+ends_from : (B : List (List ℕ) → Type 0) (next : List (List ℕ)) (rest : List ℕ) → NoneOr B next → (lines : Lines) → FollowNext next rest lines → EndOr B lines
+ends_from B next rest behind [] left = tt
+ends_from B [] rest behind (line ∷ others) left = absurd (let is : line ∷ others ≡ [] = left in cc)
+ends_from B (token ∷ tokens) rest behind (line ∷ others) (those, is, has) = let same : line ≡ token ∷ tokens = cc in subst B (sym same) behind
+
+-- no line is left, or a next one of which B is true
+pub lines_end : (B : List (List ℕ) → Type 0) (ahead : AheadView) → NoneOr B ahead.next → (lines : Lines) → AreLeft ahead lines → EndOr B lines
+lines_end B ahead behind lines left = ends_from B ahead.next ahead.rest behind lines left
+
+goes_from : (B : List (List ℕ) → Type 0) (next : List (List ℕ)) (rest : List ℕ) → (NoneOr B next → ⊥) → (lines : Lines) → FollowNext next rest lines → EndOr B lines → ⊥
+goes_from B [] rest other lines left ended = other tt
+goes_from B (token ∷ tokens) rest other [] (those, is, has) ended = cc
+goes_from B (token ∷ tokens) rest other (line ∷ others) (those, is, has) ended = let same : line ≡ token ∷ tokens = cc in other (subst B same ended)
+
+-- a line is left, and B isn't true of it
+pub lines_go_on : (B : List (List ℕ) → Type 0) (ahead : AheadView) → (NoneOr B ahead.next → ⊥) → GoesOn (EndOr B) ahead
+lines_go_on B ahead other lines left ended = goes_from B ahead.next ahead.rest other lines left ended
 
 -- the lines that are left are those behind the functions
 pub functions_end : (ahead : AheadView) → AreBehindFunctions ahead.next → (lines : Lines) → AreLeft ahead lines → EndFunctions lines
-functions_end ahead behind lines left = ends_from ahead.next ahead.rest behind lines left
-
-goes_from : (next : List (List ℕ)) (rest : List ℕ) → (AreBehindFunctions next → ⊥) → (lines : Lines) → FollowNext next rest lines → EndFunctions lines → ⊥
-goes_from [] rest other lines left ended = other tt
-goes_from (token ∷ tokens) rest other [] (those, is, has) ended = cc
-goes_from (token ∷ tokens) rest other (line ∷ others) (those, is, has) ended = let same : line ≡ token ∷ tokens = cc in other (sym same ∙ ended)
+functions_end ahead behind lines left = lines_end IsHeading ahead behind lines left
 
 pub functions_go_on : (ahead : AheadView) → (AreBehindFunctions ahead.next → ⊥) → GoesOn EndFunctions ahead
-functions_go_on ahead other lines left ended = goes_from ahead.next ahead.rest other lines left ended
+functions_go_on ahead other lines left ended = lines_go_on IsHeading ahead other lines left ended
+
+-- a heading begins with `%`
+heading_begins : (word : List ℕ) (tokens : List (List ℕ)) → IsHeading (word ∷ tokens) → word ≡ codes "%"
+heading_begins word tokens (inl is) = first_is _ _ _ _ is
+heading_begins word tokens (inr is) = first_is _ _ _ _ is
 
 -- no function begins there
 pub no_function_at_end : (function : RawFunction) (lines after : Lines) → EndFunctions lines → HasFunction function lines after → ⊥
 no_function_at_end function [] after ended (rest, (tokens, is, heading), versions) = cc
 no_function_at_end function (first ∷ lines) after ended (rest, (tokens, is, (behind, whole, named, lists)), versions) =
-    let same : first ≡ tokens = cc in
-    apart (codes "fun") (codes "%") (first_is _ _ _ _ (sym whole ∙ sym same ∙ ended)) refl
+    let same : first ≡ codes "fun" ∷ function.name ∷ codes "(" ∷ behind = (let own : first ≡ tokens = cc in own ∙ whole) in
+    apart (codes "fun") (codes "%") (heading_begins (codes "fun") (function.name ∷ codes "(" ∷ behind) (subst IsHeading same ended)) refl

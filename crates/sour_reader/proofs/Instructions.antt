@@ -6,9 +6,11 @@ use Rattle.std.specs.Str.{bytes_eq}
 use Rattle.std.proofs.lemmas.List.{map-append}
 use Rattle.sour_reader.specs.declared.raw.RawExpr.{RawExpr}
 use Rattle.sour_reader.specs.declared.raw.RawInstr.{RawInstr}
-use Rattle.sour_reader.specs.declared.raw.RawInstr.TheVariants.{Var, Drop, Assign, ArrayLength, ArrayList, Store, Print, Read, Branch, Goto, Call, Return, Stop}
+use Rattle.sour_reader.specs.declared.raw.RawInstr.TheVariants.{Var, Drop, Assign, ArrayLength, ArrayList, Store, Print, Read, Branch, Goto, Call, Return, Stop, Assume}
 use Rattle.sour_reader.specs.Name.{IsName, is_reserved}
-use Rattle.sour_reader.specs.Instruction.{SpellsExpr, IsLabel, SpellsInstr}
+use Rattle.sour_reader.specs.Label.{IsLabel}
+use Rattle.sour_reader.specs.Expression.{SpellsExpr}
+use Rattle.sour_reader.specs.Instruction.{SpellsInstr}
 use Rattle.sour_reader.specs.Parts.{SpellsSetting, BeginsNone}
 use Rattle.sour_reader.proofs.Operands.{apart, no_reserved}
 use Rattle.sour_reader.proofs.Lists.{same_parts}
@@ -66,6 +68,7 @@ declaration tokens found finds =
     to (Call x callee es) (function, arguments, is, named, first, second) = absurd (differs is refl)
     to (Return e) (value, is, spelled) = absurd (differs is refl)
     to Stop is = absurd (differs is refl)
+    to (Assume predicates exit) (each, back, is, first, second) = absurd (differs is refl)
 
     from : (instr : RawInstr) → (it : List ℕ × RawExpr) × (instr ≡ Var it.0 it.1) × (SpellsSetting (codes "=") it.0 it.1 tokens) → SpellsInstr instr (codes "var" ∷ tokens)
     from instr (it, is, (value, rest, named, spelled)) =
@@ -91,6 +94,7 @@ assignment name tokens found begins closed finds =
     to (Call x callee es) (function, arguments, is, named, first, second) = let same : name ≡ codes "call" = cc in absurd (begins.call same)
     to (Return e) (value, is, spelled) = let same : name ≡ codes "return" = cc in absurd (begins.return same)
     to Stop is = let same : name ≡ codes "stop" = cc in absurd (begins.stop same)
+    to (Assume predicates exit) (each, back, is, first, second) = absurd (begins.assume (first_same is))
 
     from : (instr : RawInstr) → (it : List ℕ × RawExpr) × (instr ≡ Assign it.0 it.1) × (SpellsSetting (codes "<-") it.0 it.1 (name ∷ tokens)) → SpellsInstr instr (name ∷ tokens)
     from instr (it, is, spelled) = subst (λ i. SpellsInstr i (name ∷ tokens)) (sym is) spelled
@@ -114,6 +118,7 @@ dropping tokens found finds =
     to (Call x callee es) (function, arguments, is, named, first, second) = absurd (differs is refl)
     to (Return e) (value, is, spelled) = absurd (differs is refl)
     to Stop is = absurd (differs is refl)
+    to (Assume predicates exit) (each, back, is, first, second) = absurd (differs is refl)
 
     from : (instr : RawInstr) → (it : List ℕ) × (instr ≡ Drop it) × ((tokens ≡ it ∷ []) × IsName it) → SpellsInstr instr (codes "drop" ∷ tokens)
     from instr (it, is, (rest, named)) = subst (λ i. SpellsInstr i (codes "drop" ∷ tokens)) (sym is) (ap (λ ts. codes "drop" ∷ ts) rest, named)
@@ -137,6 +142,7 @@ reading tokens found finds =
     to (Call x callee es) (function, arguments, is, named, first, second) = absurd (differs is refl)
     to (Return e) (value, is, spelled) = absurd (differs is refl)
     to Stop is = absurd (differs is refl)
+    to (Assume predicates exit) (each, back, is, first, second) = absurd (differs is refl)
 
     from : (instr : RawInstr) → (it : List ℕ) × (instr ≡ Read it) × ((tokens ≡ it ∷ []) × IsName it) → SpellsInstr instr (codes "read" ∷ tokens)
     from instr (it, is, (rest, named)) = subst (λ i. SpellsInstr i (codes "read" ∷ tokens)) (sym is) (ap (λ ts. codes "read" ∷ ts) rest, named)
@@ -160,6 +166,7 @@ going tokens found finds =
     to (Call x callee es) (function, arguments, is, named, first, second) = absurd (differs is refl)
     to (Return e) (value, is, spelled) = absurd (differs is refl)
     to Stop is = absurd (differs is refl)
+    to (Assume predicates exit) (each, back, is, first, second) = absurd (differs is refl)
 
     from : (instr : RawInstr) → (it : List ℕ) × (instr ≡ Goto it) × ((tokens ≡ it ∷ []) × IsLabel it) → SpellsInstr instr (codes "goto" ∷ tokens)
     from instr (it, is, (rest, label)) = subst (λ i. SpellsInstr i (codes "goto" ∷ tokens)) (sym is) (ap (λ ts. codes "goto" ∷ ts) rest, label)
@@ -194,6 +201,7 @@ branches tokens = to
     to (Call x callee es) (function, arguments, is, named, first, second) = absurd (differs is refl)
     to (Return e) (value, is, spelled) = absurd (differs is refl)
     to Stop is = absurd (differs is refl)
+    to (Assume predicates exit) (each, back, is, first, second) = absurd (differs is refl)
 
 -- the last two tokens are the labels
 branch_parts : {X : Type 0} (value other : List X) (a b x y : X) → value ++ a ∷ b ∷ [] ≡ other ++ x ∷ y ∷ [] → (value ≡ other) × (a ≡ x) × (b ≡ y)

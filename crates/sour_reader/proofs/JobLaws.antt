@@ -6,14 +6,16 @@ use Rattle.sour_tokens.specs.Text.{HasTokenLines}
 use Rattle.sour_reader.specs.declared.raw.RawLine.{RawLine}
 use Rattle.sour_reader.specs.declared.raw.RawVersion.{RawVersion}
 use Rattle.sour_reader.specs.declared.raw.RawFunction.{RawFunction}
+use Rattle.sour_reader.specs.declared.raw.RawPlanJob.{RawPlanJob}
 use Rattle.sour_reader.specs.declared.raw.RawInput.{RawInput}
 use Rattle.sour_reader.specs.declared.raw.RawJob.{RawJob}
-use Rattle.sour_reader.specs.Inputs.{SpellsEachInput, SpellsInputs}
-use Rattle.sour_reader.specs.Limits.{HasShortInstrs, IsShortVersion, IsShortFunction, IsShortInput, IsShort}
+use Rattle.sour_reader.specs.Plan.{SpellsEachJob, plan_heading, SpellsPlan}
+use Rattle.sour_reader.specs.Inputs.{SpellsEachInput, inputs_heading, SpellsInputs}
+use Rattle.sour_reader.specs.Limits.{HasShortInstrs, IsShortVersion, IsShortFunction, IsShortJob, IsShortInput, IsShort}
 use Rattle.sour_reader.specs.Job.{SpellsLines, SpellsVersion, SpellsVersions, SpellsFunction, SpellsFunctions, SpellsJob, Reads, parameters_spelling, version_heading, function_heading, function_end}
 use Rattle.sour_reader.specs.Ahead.{AheadView, AreLeft, ReadsAs, ReadsAsNone, OneLine, EachUpTo}
-use Rattle.sour_reader.specs.Front.{IsLine, BeginsVersionOrEnd, EndVersion, HasVersion, EndFunction, HasFunction, EndFunctions, HasFunctions, IsInput, EndText, HasInputs, HasJob}
-use Rattle.sour_reader.proofs.Readings.{left_at_end, reads_both, reads_none_first, reads_none_second}
+use Rattle.sour_reader.specs.Front.{IsLine, BeginsVersionOrEnd, EndVersion, HasVersion, EndFunction, HasFunction, EndFunctions, HasFunctions, IsPlanJob, IsPlanHeading, NextIs, EndPlan, HasPlan, IsInput, EndText, HasInputs, HasOthers, HasJob}
+use Rattle.sour_reader.proofs.Readings.{left_at_end, reads_both}
 
 abbrev Lines : Type 0
 Lines = List (List (List ℕ))
@@ -131,28 +133,69 @@ inputs_to : (inputs : List RawInput) (lines after : Lines) → HasInputs inputs 
 inputs_to inputs [] after (is, none) = (is, omega (arith, ap length is), subst (AllByRecursion IsShortInput) (sym is) tt)
 inputs_to inputs (line ∷ lines) after (heading, (each, few)) = let r = each_to inputs lines after each in ((heading, r.0), few, r.1)
 
--- the inputs come behind the functions
-inputs_end : (inputs : List RawInput) (lines : Lines) → SpellsInputs inputs lines → EndFunctions lines
+-- the inputs come behind the plan
+inputs_end : (inputs : List RawInput) (lines : Lines) → SpellsInputs inputs lines → EndPlan lines
 inputs_end inputs [] spelled = tt
 inputs_end inputs (line ∷ lines) spelled = spelled.0
 
+jobs_from : (jobs : List RawPlanJob) (front after : Lines) → SpellsEachJob jobs front → AllByRecursion IsShortJob jobs → EndPlan after → EachUpTo (OneLine IsPlanJob) EndPlan jobs (front ++ after) after
+jobs_from [] [] after spelled short ended = (refl, ended)
+jobs_from [] (tokens ∷ front) after spelled short ended = absurd spelled
+jobs_from (job ∷ jobs) [] after spelled short ended = absurd spelled
+jobs_from (job ∷ jobs) (tokens ∷ front) after (one, more) short ended = (front ++ after, (tokens, refl, (one, short.0)), jobs_from jobs front after more short.1 ended)
+
+jobs_to : (jobs : List RawPlanJob) (lines after : Lines) → EachUpTo (OneLine IsPlanJob) EndPlan jobs lines after → (front : Lines) × (lines ≡ front ++ after) × SpellsEachJob jobs front × AllByRecursion IsShortJob jobs
+jobs_to [] lines after (is, ended) = ([], is, tt, tt)
+jobs_to (job ∷ jobs) lines after (rest, (tokens, is, (one, short)), more) =
+    let r = jobs_to jobs rest after more in
+    (tokens ∷ r.0, is ∙ ap (λ it. tokens ∷ it) r.1, (one, r.2), (short, r.3))
+
+-- what comes behind a plan begins none
+no_plan_next : (lines : Lines) → EndPlan lines → NextIs IsPlanHeading lines → ⊥
+no_plan_next [] ended begins = begins
+no_plan_next (tokens ∷ lines) ended begins = let same : plan_heading ≡ inputs_heading = sym begins ∙ ended in cc
+
+plan_from : (jobs : List RawPlanJob) (front after : Lines) → SpellsPlan jobs front → length jobs ≤ 1024 → AllByRecursion IsShortJob jobs → EndPlan after → HasPlan jobs (front ++ after) after
+plan_from jobs [] after none few short ended = inr (none, refl, no_plan_next after ended)
+plan_from jobs (line ∷ front) after (heading, each) few short ended =
+    inl (front ++ after, ap (λ it. it ∷ front ++ after) heading, (jobs_from jobs front after each short ended, few))
+
+plan_to : (jobs : List RawPlanJob) (lines after : Lines) → HasPlan jobs lines after → (front : Lines) × (lines ≡ front ++ after) × SpellsPlan jobs front × (length jobs ≤ 1024) × AllByRecursion IsShortJob jobs
+plan_to jobs lines after (inl (rest, is, (each, few))) =
+    let r = jobs_to jobs rest after each in
+    (plan_heading ∷ r.0, is ∙ ap (λ it. plan_heading ∷ it) r.1, (refl, r.2), few, r.3)
+plan_to jobs lines after (inr (none, is, other)) =
+    ([], is, none, omega (arith, ap length none), subst (AllByRecursion IsShortJob) (sym none) tt)
+
+-- the plan, or the inputs, come behind the functions
+plan_end : (jobs : List RawPlanJob) (front after : Lines) → SpellsPlan jobs front → EndPlan after → EndFunctions (front ++ after)
+plan_end jobs [] [] none ended = tt
+plan_end jobs [] (tokens ∷ after) none ended = inr ended
+plan_end jobs (line ∷ front) after spelled ended = inl spelled.0
+
 job_from : (job : RawJob) (lines : Lines) → SpellsJob job lines → IsShort job → HasJob job lines []
 job_from job lines spelled short =
+    let behind = inputs_end job.inputs spelled.inputs spelled.given in
     subst (λ it. HasJob job it []) (sym spelled.whole) (
-      spelled.inputs,
-      (functions_from job.functions spelled.functions spelled.inputs spelled.each short.each (inputs_end job.inputs spelled.inputs spelled.given), (spelled.some, short.functions)),
-      inputs_from job.inputs spelled.inputs spelled.given short.inputs short.each_input,
+      spelled.plan ++ spelled.inputs,
+      (functions_from job.functions spelled.functions (spelled.plan ++ spelled.inputs) spelled.each short.each (plan_end job.plan spelled.plan spelled.inputs spelled.planned behind), (spelled.some, short.functions)),
+      (
+        spelled.inputs,
+        plan_from job.plan spelled.plan spelled.inputs spelled.planned short.plan short.each_job behind,
+        inputs_from job.inputs spelled.inputs spelled.given short.inputs short.each_input,
+      ),
     )
 
 job_to : (bytes : List ℕ) (job : RawJob) (lines after : Lines) → HasTokenLines bytes lines → HasJob job lines after → Reads bytes job
-job_to bytes job lines after has (rest, (each, (some, count)), given) =
-    let f = functions_to job.functions lines rest each in
+job_to bytes job lines after has (behind, (each, (some, count)), (rest, planned, given)) =
+    let f = functions_to job.functions lines behind each in
+    let p = plan_to job.plan behind rest planned in
     let i = inputs_to job.inputs rest after given in
     record {
       lines = lines;
       whole = has;
-      spelled = record { functions = f.0; inputs = rest; whole = f.1; some = some; each = f.2; given = i.0 };
-      short = record { functions = count; each = f.3; inputs = i.1; each_input = i.2 };
+      spelled = record { functions = f.0; plan = p.0; inputs = rest; whole = f.1 ∙ ap (λ it. f.0 ++ it) p.1; some = some; each = f.2; planned = p.2; given = i.0 };
+      short = record { functions = count; each = f.3; plan = p.3; each_job = p.4; inputs = i.1; each_input = i.2 };
     }
 
 -- the lines of the text are those that are left at first
@@ -163,25 +206,48 @@ AreOf ahead bytes = (lines : List (List (List ℕ))) → AreLeft ahead lines ↔
 pub reads_nothing : (bytes : List ℕ) (start : AheadView) → AreOf start bytes → ReadsAsNone HasJob start → (job : RawJob) → Reads bytes job → ⊥
 reads_nothing bytes start are none job reads = none job reads.lines [] ((are reads.lines).1 reads.whole) (job_from job reads.lines reads.spelled reads.short)
 
+-- what stands behind the functions of a job
+abbrev Others : Type 0
+Others = List RawPlanJob × List RawInput
+
+abbrev HasBoth : Others → Lines → Lines → Type 0
+HasBoth others lines after = HasOthers others.0 others.1 lines after
+
 pub no_functions : (start : AheadView) → ReadsAsNone HasFunctions start → ReadsAsNone HasJob start
-no_functions start none = reads_none_first HasFunctions (λ it. HasInputs) (λ (job : RawJob). job.functions) (λ (job : RawJob). job.inputs) start none
+no_functions start none job lines after left (rest, first, others) = none job.functions lines rest left first
 
-pub no_inputs : (start mid : AheadView) (functions : List RawFunction) → ReadsAs HasFunctions start mid functions → ReadsAsNone HasInputs mid → ReadsAsNone HasJob start
-no_inputs start mid functions first none = reads_none_second HasFunctions (λ it. HasInputs) (λ (job : RawJob). job.functions) (λ (job : RawJob). job.inputs) start mid functions first none
+-- where what is behind the functions isn't there
+no_others : (start mid : AheadView) (functions : List RawFunction) → ReadsAs HasFunctions start mid functions → ReadsAsNone HasBoth mid → ReadsAsNone HasJob start
+no_others start mid functions first none job lines after left (rest, all, others) =
+    none (job.plan, job.inputs) rest after ((first job.functions rest).0 (lines, left, all)).1 others
 
--- the bytes read as the job of these functions and inputs, and as no other
-pub reads_job : (bytes : List ℕ) (start mid end : AheadView) (functions : List RawFunction) (inputs : List RawInput) → AreOf start bytes → ReadsAs HasFunctions start mid functions → ReadsAs HasInputs mid end inputs → end.next ≡ []
-    → (other : RawJob) → Reads bytes other ↔ (other ≡ record { functions = functions; inputs = inputs })
-reads_job bytes start mid end functions inputs are first second ended other = (to, from)
+pub no_plan : (start mid : AheadView) (functions : List RawFunction) → ReadsAs HasFunctions start mid functions → ReadsAsNone HasPlan mid → ReadsAsNone HasJob start
+no_plan start mid functions first none =
+    no_others start mid functions first (λ others lines after left (rest, planned, given). none others.0 lines rest left planned)
+
+pub no_inputs : (start mid last : AheadView) (functions : List RawFunction) (plan : List RawPlanJob) → ReadsAs HasFunctions start mid functions → ReadsAs HasPlan mid last plan → ReadsAsNone HasInputs last → ReadsAsNone HasJob start
+no_inputs start mid last functions plan first second none =
+    no_others start mid functions first
+    (λ others lines after left (rest, planned, given). none others.1 rest after ((second others.0 rest).0 (lines, left, planned)).1 given)
+
+-- the bytes read as the job of these functions, this plan and these inputs, and as no other
+pub reads_job : (bytes : List ℕ) (start mid last end : AheadView) (functions : List RawFunction) (plan : List RawPlanJob) (inputs : List RawInput) → AreOf start bytes
+    → ReadsAs HasFunctions start mid functions → ReadsAs HasPlan mid last plan → ReadsAs HasInputs last end inputs → end.next ≡ []
+    → (other : RawJob) → Reads bytes other ↔ (other ≡ record { functions = functions; plan = plan; inputs = inputs })
+reads_job bytes start mid last end functions plan inputs are first second third ended other = (to, from)
   where
-    whole : ReadsAs HasJob start end (record { functions = functions; inputs = inputs })
-    whole = reads_both HasFunctions (λ it. HasInputs) (λ all given. record { functions = all; inputs = given }) (λ (job : RawJob). job.functions) (λ (job : RawJob). job.inputs) start mid end functions inputs
-        (λ z. refl) (λ a b. refl) (λ a b. refl) first second
+    both : ReadsAs HasBoth mid end (plan, inputs)
+    both = reads_both HasPlan (λ it. HasInputs) (λ a b. (a, b)) (λ (it : Others). it.0) (λ (it : Others). it.1) mid last end plan inputs
+        (λ z. refl) (λ a b. refl) (λ a b. refl) second third
 
-    to : Reads bytes other → other ≡ record { functions = functions; inputs = inputs }
+    whole : ReadsAs HasJob start end (record { functions = functions; plan = plan; inputs = inputs })
+    whole = reads_both HasFunctions (λ it. HasBoth) (λ all (others : Others). record { functions = all; plan = others.0; inputs = others.1 }) (λ (job : RawJob). job.functions) (λ (job : RawJob). (job.plan, job.inputs)) start mid end functions (plan, inputs)
+        (λ z. refl) (λ a b. refl) (λ a b. refl) first both
+
+    to : Reads bytes other → other ≡ record { functions = functions; plan = plan; inputs = inputs }
     to reads = ((whole other []).0 (reads.lines, (are reads.lines).1 reads.whole, job_from other reads.lines reads.spelled reads.short)).0
 
-    from : other ≡ record { functions = functions; inputs = inputs } → Reads bytes other
+    from : other ≡ record { functions = functions; plan = plan; inputs = inputs } → Reads bytes other
     from is =
         let all = (whole other []).1 (is, (left_at_end end ended []).1 refl) in
         job_to bytes other all.0 [] ((are all.0).0 all.1) all.2

@@ -5,10 +5,12 @@ use Rattle.std.specs.Option.{option_map}
 use Rattle.sour_tokens.specs.Token.{IsWord}
 use Rattle.sour_reader.specs.declared.raw.RawExpr.{RawExpr}
 use Rattle.sour_reader.specs.declared.raw.RawInstr.{RawInstr}
-use Rattle.sour_reader.specs.declared.raw.RawInstr.TheVariants.{Var, Drop, Assign, ArrayLength, ArrayList, Store, Print, Read, Branch, Goto, Call, Return, Stop}
+use Rattle.sour_reader.specs.declared.raw.RawInstr.TheVariants.{Var, Drop, Assign, ArrayLength, ArrayList, Store, Print, Read, Branch, Goto, Call, Return, Stop, Assume}
 use Rattle.sour_reader.specs.declared.raw.RawLine.{RawLine}
 use Rattle.sour_reader.specs.Name.{IsName}
-use Rattle.sour_reader.specs.Instruction.{SpellsExpr, IsLabel, SpellsInstr, SpellsLabelled, SpellsLine}
+use Rattle.sour_reader.specs.Label.{IsLabel}
+use Rattle.sour_reader.specs.Expression.{SpellsExpr, SpellsEach}
+use Rattle.sour_reader.specs.Instruction.{SpellsInstr, SpellsLabelled, SpellsLine}
 use Rattle.sour_reader.specs.Parts.{HasNoColon}
 use Rattle.sour_reader.proofs.Operands.{apart, colon_begins_none}
 use Rattle.sour_reader.proofs.Expressions.{no_expr_begins, no_empty_expr}
@@ -49,6 +51,17 @@ no_colon_value : (e : RawExpr) (value : List (List ℕ)) (first word : List ℕ)
 no_colon_value e [] first word tokens is spelled = no_empty_expr e spelled
 no_colon_value e (token ∷ value) first word tokens is spelled = no_colon_expr e token value (second_same is) spelled
 
+-- nor predicates
+no_colon_listed : (es : List RawExpr) (each : List (List ℕ)) (first : List ℕ) → first ≡ codes ":" → SpellsEach es (first ∷ each) → ⊥
+no_colon_listed [] each first is spelled = cc
+no_colon_listed (e ∷ []) each first is spelled = no_colon_expr e first each is spelled
+no_colon_listed (e ∷ other ∷ es) each first is ([], rest, whole, spelled, more) = no_empty_expr e spelled
+no_colon_listed (e ∷ other ∷ es) each first is (token ∷ front, rest, whole, spelled, more) = no_colon_expr e token front (sym (first_same whole) ∙ is) spelled
+
+no_colon_each : (es : List RawExpr) (each back : List (List ℕ)) (first : List ℕ) (tokens : List (List ℕ)) → first ∷ codes ":" ∷ tokens ≡ codes "assume" ∷ each ++ codes "else" ∷ back → SpellsEach es each → ⊥
+no_colon_each es [] back first tokens is spelled = apart (codes "else") (codes ":") (second_same is) refl
+no_colon_each es (token ∷ each) back first tokens is spelled = no_colon_listed es each token (second_same is) spelled
+
 -- the second token of an instruction isn't `:`
 no_colon : (instr : RawInstr) (first : List ℕ) (tokens : List (List ℕ)) → SpellsInstr instr (first ∷ codes ":" ∷ tokens) → ⊥
 no_colon (Var x e) first tokens (value, is, named, spelled) = no_colon_name x (second_same is) named
@@ -64,6 +77,7 @@ no_colon (Goto a) first tokens (is, label) = no_colon_label a (second_same is) l
 no_colon (Call x callee es) first tokens (function, arguments, is, named, one, two) = no_colon_name x (second_same is) named
 no_colon (Return e) first tokens (value, is, spelled) = no_colon_value e value first (codes "return") tokens is spelled
 no_colon Stop first tokens is = cc
+no_colon (Assume predicates exit) first tokens (each, back, is, one, two) = no_colon_each predicates each back first tokens is one
 
 -- a line of this label and this instruction
 abbrev pub line_with : Option (List ℕ) → RawInstr → RawLine

@@ -17,5 +17,16 @@ pub mod Labels
 pub mod Lists
 pub mod Operands
 pub mod Expressions
+pub mod Tokens
 pub mod Commas
 pub mod Calls
+pub mod BracketLaws
+pub mod BindLaws
+pub mod ExitLaws
+pub mod ArrayLaws
+pub mod AssumeLaws
+pub mod ExitMentionLaws
+pub mod Paths
+pub mod Separated
+pub mod PassLaws
+pub mod PlanLaws

@@ -14,14 +14,14 @@ use Rattle.sour_reader.specs.declared.raw.RawSimple.{RawSimple}
 use Rattle.sour_reader.specs.declared.raw.RawSimple.TheVariants.{Lit, Name}
 use Rattle.sour_reader.specs.Literal.{SpellsNumber, SpellsLiteral}
 use Rattle.sour_reader.specs.Name.{IsName, is_reserved}
-use Rattle.sour_reader.specs.Instruction.{SpellsSimple}
+use Rattle.sour_reader.specs.Expression.{SpellsSimple}
 use Rattle.sour_reader.specs.Operand.{operand_length}
 use Rattle.sour_reader.specs.Parts.{SplitsSo}
 use Rattle.sour_reader.proofs.Lists.{same_parts}
 use Rattle.sour_reader.proofs.Found.{Finds, finds_none, finds_some, finds_made, none_found, found_holds, found_only}
 
 -- a test that isn't passed
-tested : (a b : List ℕ) (test : Bool) → bytes_eq a b ≡ test → a ≢ b → test ≡ false
+pub tested : (a b : List ℕ) (test : Bool) → bytes_eq a b ≡ test → a ≢ b → test ≡ false
 tested a b true is other = absurd (other ((bytes_eq-Decides a b).0 is))
 tested a b false is other = refl
 
@@ -82,7 +82,7 @@ simple_length (Lit literal) front rest spelled = literal_length literal front re
 simple_length (Name name) front rest (is, named) = one_token name front rest is (word_no_sign name named.word)
 
 -- digits are no word
-digits_no_word : (token : List ℕ) → IsDigits token → IsWord token → ⊥
+pub digits_no_word : (token : List ℕ) → IsDigits token → IsWord token → ⊥
 digits_no_word [] digits word = absurd digits
 digits_no_word (b ∷ bytes) digits word = differ b digits.0 word.0
   where

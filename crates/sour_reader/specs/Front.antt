@@ -4,14 +4,16 @@ use Rattle.std.specs.List.{AllByRecursion}
 use Rattle.sour_reader.specs.declared.raw.RawLine.{RawLine}
 use Rattle.sour_reader.specs.declared.raw.RawVersion.{RawVersion}
 use Rattle.sour_reader.specs.declared.raw.RawFunction.{RawFunction}
+use Rattle.sour_reader.specs.declared.raw.RawPlanJob.{RawPlanJob}
 use Rattle.sour_reader.specs.declared.raw.RawInput.{RawInput}
 use Rattle.sour_reader.specs.declared.raw.RawJob.{RawJob}
 use Rattle.sour_reader.specs.declared.heading.FunctionHeading.{FunctionHeading}
 use Rattle.sour_reader.specs.Name.{IsName}
 use Rattle.sour_reader.specs.Mentions.{variables_of}
 use Rattle.sour_reader.specs.Instruction.{SpellsLine}
+use Rattle.sour_reader.specs.Plan.{SpellsPlanJob, plan_heading}
 use Rattle.sour_reader.specs.Inputs.{SpellsInput, inputs_heading}
-use Rattle.sour_reader.specs.Limits.{IsShortInstr, IsShortInput}
+use Rattle.sour_reader.specs.Limits.{IsShortInstr, IsShortJob, IsShortInput}
 use Rattle.sour_reader.specs.Job.{version_heading, parameters_spelling, function_end}
 use Rattle.sour_reader.specs.Ahead.{OneLine, EachUpTo}
 
@@ -90,19 +92,61 @@ abbrev pub HasFunction : RawFunction → List (List (List ℕ)) → List (List (
 HasFunction function lines after =
     (rest : List (List (List ℕ))) × OneLine IsFunctionHeading (heading_of function) lines rest × HasVersions function.parameters function.versions rest (function_end ∷ after)
 
+-- no tokens, or such of which B is true
+abbrev pub NoneOr : (List (List ℕ) → Type 0) → List (List ℕ) → Type 0
+NoneOr B [] = ⊤
+NoneOr B (token ∷ tokens) = B (token ∷ tokens)
+
+-- no line, or a next one of which B is true
+abbrev pub EndOr : (List (List ℕ) → Type 0) → List (List (List ℕ)) → Type 0
+EndOr B [] = ⊤
+EndOr B (tokens ∷ lines) = B tokens
+
+-- the line is the one before the jobs
+abbrev pub IsPlanHeading : List (List ℕ) → Type 0
+IsPlanHeading tokens = tokens ≡ plan_heading
+
+-- the line is the one before the inputs
+abbrev pub IsInputsHeading : List (List ℕ) → Type 0
+IsInputsHeading tokens = tokens ≡ inputs_heading
+
+-- the line is one of these two
+abbrev pub IsHeading : List (List ℕ) → Type 0
+IsHeading tokens = IsPlanHeading tokens ⊎ IsInputsHeading tokens
+
 -- the tokens of the line behind the functions, none where no line is there
 abbrev pub AreBehindFunctions : List (List ℕ) → Type 0
-AreBehindFunctions [] = ⊤
-AreBehindFunctions (token ∷ tokens) = token ∷ tokens ≡ inputs_heading
+AreBehindFunctions tokens = NoneOr IsHeading tokens
 
 -- the lines behind the functions
 abbrev pub EndFunctions : List (List (List ℕ)) → Type 0
-EndFunctions [] = ⊤
-EndFunctions (tokens ∷ lines) = tokens ≡ inputs_heading
+EndFunctions lines = EndOr IsHeading lines
 
 -- the functions of a text
 abbrev pub HasFunctions : List RawFunction → List (List (List ℕ)) → List (List (List ℕ)) → Type 0
 HasFunctions functions lines after = EachUpTo HasFunction EndFunctions functions lines after × AreSome 256 functions
+
+-- the line is this job, of not too many passes
+abbrev pub IsPlanJob : RawPlanJob → List (List ℕ) → Type 0
+IsPlanJob job tokens = SpellsPlanJob job tokens × IsShortJob job
+
+-- the tokens of the line behind the plan, none where no line is there
+abbrev pub AreBehindPlan : List (List ℕ) → Type 0
+AreBehindPlan tokens = NoneOr IsInputsHeading tokens
+
+-- the lines behind the plan
+abbrev pub EndPlan : List (List (List ℕ)) → Type 0
+EndPlan lines = EndOr IsInputsHeading lines
+
+-- the jobs behind the heading of the plan
+abbrev pub HasEachJob : List RawPlanJob → List (List (List ℕ)) → List (List (List ℕ)) → Type 0
+HasEachJob jobs lines after = EachUpTo (OneLine IsPlanJob) EndPlan jobs lines after × (length jobs ≤ 1024)
+
+-- the heading and the jobs, or no line of a plan and no jobs
+abbrev pub HasPlan : List RawPlanJob → List (List (List ℕ)) → List (List (List ℕ)) → Type 0
+HasPlan jobs lines after =
+    ((rest : List (List (List ℕ))) × (lines ≡ plan_heading ∷ rest) × HasEachJob jobs rest after)
+    ⊎ ((jobs ≡ []) × (lines ≡ after) × (NextIs IsPlanHeading lines → ⊥))
 
 -- the line is this input, of not too many values
 abbrev pub IsInput : RawInput → List (List ℕ) → Type 0
@@ -121,6 +165,10 @@ abbrev pub HasInputs : List RawInput → List (List (List ℕ)) → List (List (
 HasInputs inputs [] after = (inputs ≡ []) × (after ≡ [])
 HasInputs inputs (heading ∷ lines) after = (heading ≡ inputs_heading) × HasEachInput inputs lines after
 
+-- what stands behind the functions: the plan, and then the inputs
+abbrev pub HasOthers : List RawPlanJob → List RawInput → List (List (List ℕ)) → List (List (List ℕ)) → Type 0
+HasOthers plan inputs lines after = (rest : List (List (List ℕ))) × HasPlan plan lines rest × HasInputs inputs rest after
+
 -- a whole job
 abbrev pub HasJob : RawJob → List (List (List ℕ)) → List (List (List ℕ)) → Type 0
-HasJob job lines after = (rest : List (List (List ℕ))) × HasFunctions job.functions lines rest × HasInputs job.inputs rest after
+HasJob job lines after = (rest : List (List (List ℕ))) × HasFunctions job.functions lines rest × HasOthers job.plan job.inputs rest after

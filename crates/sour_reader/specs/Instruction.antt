@@ -1,56 +1,12 @@
 -- How instructions and their labels are spelled, one line for each.
-use Rattle.std.specs.Prelude.{◌≡◌, ◌⊎◌, ℕ, List, [], ◌∷◌, ◌++◌, Option, None, Some, codes}
-use Rattle.sour_tokens.specs.Token.{IsDigits}
-use Rattle.sour_reader.specs.declared.raw.RawSimple.{RawSimple}
-use Rattle.sour_reader.specs.declared.raw.RawSimple.TheVariants as simple
-use Rattle.sour_reader.specs.declared.raw.RawExpr.{RawExpr}
-use Rattle.sour_reader.specs.declared.raw.RawExpr.TheVariants as expr
+use Rattle.std.specs.Prelude.{◌≡◌, ℕ, List, [], ◌∷◌, ◌++◌, Option, None, Some, codes}
 use Rattle.sour_reader.specs.declared.raw.RawInstr.{RawInstr}
-use Rattle.sour_reader.specs.declared.raw.RawInstr.TheVariants.{Var, Drop, Assign, ArrayLength, ArrayList, Store, Print, Read, Branch, Goto, Call, Return, Stop}
+use Rattle.sour_reader.specs.declared.raw.RawInstr.TheVariants.{Var, Drop, Assign, ArrayLength, ArrayList, Store, Print, Read, Branch, Goto, Call, Return, Stop, Assume}
 use Rattle.sour_reader.specs.declared.raw.RawLine.{RawLine}
-use Rattle.sour_reader.specs.Literal.{SpellsLiteral}
 use Rattle.sour_reader.specs.Name.{IsName}
-use Rattle.sour_reader.specs.Operator.{op_spelling}
-
--- the tokens spell the operand
-abbrev pub SpellsSimple : RawSimple → List (List ℕ) → Type 0
-SpellsSimple (simple.Lit literal) tokens = SpellsLiteral literal tokens
-SpellsSimple (simple.Name name) tokens = (tokens ≡ name ∷ []) × IsName name
-
--- the tokens spell the expression
-abbrev pub SpellsExpr : RawExpr → List (List ℕ) → Type 0
-SpellsExpr (expr.Plain a) tokens = SpellsSimple a tokens
-SpellsExpr (expr.Cell x index) tokens =
-    (place : List (List ℕ)) × (tokens ≡ x ∷ codes "[" ∷ place ++ codes "]" ∷ []) × IsName x × SpellsSimple index place
-SpellsExpr (expr.Length a) tokens =
-    (operand : List (List ℕ)) × (tokens ≡ codes "length" ∷ operand) × SpellsSimple a operand
-SpellsExpr (expr.Not a) tokens =
-    (operand : List (List ℕ)) × (tokens ≡ codes "!" ∷ operand) × SpellsSimple a operand
-SpellsExpr (expr.Binary op a b) tokens =
-    (left : List (List ℕ)) × (right : List (List ℕ)) × (tokens ≡ left ++ op_spelling op ∷ right)
-    × SpellsSimple a left × SpellsSimple b right
-
--- the tokens spell the expressions, with commas between them
-abbrev pub SpellsEach : List RawExpr → List (List ℕ) → Type 0
-SpellsEach [] tokens = tokens ≡ []
-SpellsEach (e ∷ []) tokens = SpellsExpr e tokens
-SpellsEach (e ∷ other ∷ es) tokens =
-    (first : List (List ℕ)) × (rest : List (List ℕ)) × (tokens ≡ first ++ codes "," ∷ rest)
-    × SpellsExpr e first × SpellsEach (other ∷ es) rest
-
--- a decimal number without leading zeros
-abbrev pub IsDecimal : List ℕ → Type 0
-IsDecimal [] = ⊥
-IsDecimal (digit ∷ []) = IsDigits (digit ∷ [])
-IsDecimal (digit ∷ other ∷ digits) = ¬ (digit ≡ 48) × IsDigits (digit ∷ other ∷ digits)
-
--- `_` and a decimal number
-abbrev pub IsAutomaticLabel : List ℕ → Type 0
-IsAutomaticLabel bytes = (digits : List ℕ) × (bytes ≡ 95 ∷ digits) × IsDecimal digits
-
--- a label where an instruction goes to it: a name, or one that no text gives
-abbrev pub IsLabel : List ℕ → Type 0
-IsLabel bytes = IsName bytes ⊎ IsAutomaticLabel bytes
+use Rattle.sour_reader.specs.Label.{IsLabel}
+use Rattle.sour_reader.specs.Expression.{SpellsSimple, SpellsExpr, SpellsEach}
+use Rattle.sour_reader.specs.Exit.{SpellsExit}
 
 -- the tokens spell the instruction
 abbrev pub SpellsInstr : RawInstr → List (List ℕ) → Type 0
@@ -77,6 +33,9 @@ SpellsInstr (Call x callee es) tokens =
     × IsName x × SpellsSimple callee function × SpellsEach es arguments
 SpellsInstr (Return e) tokens = (value : List (List ℕ)) × (tokens ≡ codes "return" ∷ value) × SpellsExpr e value
 SpellsInstr Stop tokens = tokens ≡ codes "stop" ∷ []
+SpellsInstr (Assume predicates exit) tokens =
+    (each : List (List ℕ)) × (back : List (List ℕ)) × (tokens ≡ codes "assume" ∷ each ++ codes "else" ∷ back)
+    × SpellsEach predicates each × SpellsExit exit back
 
 -- the tokens spell the instruction, behind the label and `:` where there is a label
 abbrev pub SpellsLabelled : Option (List ℕ) → RawInstr → List (List ℕ) → Type 0

@@ -8,6 +8,7 @@ use Rattle.sour_reader.specs.declared.raw.RawFunction.{RawFunction}
 use Rattle.sour_reader.specs.declared.raw.RawJob.{RawJob}
 use Rattle.sour_reader.specs.Name.{IsName}
 use Rattle.sour_reader.specs.Instruction.{SpellsLine}
+use Rattle.sour_reader.specs.Plan.{SpellsPlan}
 use Rattle.sour_reader.specs.Inputs.{SpellsInputs}
 use Rattle.sour_reader.specs.Limits.{IsShort}
 
@@ -62,13 +63,15 @@ SpellsFunctions [] text = text ≡ []
 SpellsFunctions (function ∷ functions) text =
     (front : List (List (List ℕ))) × (rest : List (List (List ℕ))) × (text ≡ front ++ rest) × SpellsFunction function front × SpellsFunctions functions rest
 
--- one function or more, and then the inputs
+-- one function or more, then the plan, and then the inputs
 pub record SpellsJob (job : RawJob) (text : List (List (List ℕ))) : Type 0 where
   pub functions : List (List (List ℕ))
+  pub plan : List (List (List ℕ))
   pub inputs : List (List (List ℕ))
-  pub whole : text ≡ functions ++ inputs
+  pub whole : text ≡ functions ++ (plan ++ inputs)
   pub some : ¬ (job.functions ≡ [])
   pub each : SpellsFunctions job.functions functions
+  pub planned : SpellsPlan job.plan plan
   pub given : SpellsInputs job.inputs inputs
 
 -- the bytes read as this job

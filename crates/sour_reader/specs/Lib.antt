@@ -2,9 +2,14 @@ pub mod Name
 pub mod Literal
 pub mod Operator
 pub mod Operand
+pub mod Label
+pub mod Expression
+pub mod Exit
 pub mod Instruction
 pub mod Parts
 pub mod Mentions
+pub mod Plan
+pub mod Separators
 pub mod Inputs
 pub mod Limits
 pub mod Job

@@ -1,13 +1,16 @@
 -- The variables of a version: its parameters, and then the other names that it mentions, in the order of their first mention.
-use Rattle.std.specs.Prelude.{ℕ, List, [], ◌∷◌, ◌++◌, if◌then◌else◌}
+use Rattle.std.specs.Prelude.{◌≡◌, ◌<◌, ◌⊎◌, ℕ, List, [], ◌∷◌, ◌++◌, length, if◌then◌else◌}
 use Rattle.std.specs.List.{list_any}
 use Rattle.std.specs.Str.{bytes_eq}
 use Rattle.sour_reader.specs.declared.raw.RawSimple.{RawSimple}
 use Rattle.sour_reader.specs.declared.raw.RawSimple.TheVariants as simple
 use Rattle.sour_reader.specs.declared.raw.RawExpr.{RawExpr}
 use Rattle.sour_reader.specs.declared.raw.RawExpr.TheVariants as expr
+use Rattle.sour_reader.specs.declared.raw.RawBind.{RawBind}
+use Rattle.sour_reader.specs.declared.raw.RawExtra.{RawExtra}
+use Rattle.sour_reader.specs.declared.raw.RawExit.{RawExit}
 use Rattle.sour_reader.specs.declared.raw.RawInstr.{RawInstr}
-use Rattle.sour_reader.specs.declared.raw.RawInstr.TheVariants.{Var, Drop, Assign, ArrayLength, ArrayList, Store, Print, Read, Branch, Goto, Call, Return, Stop}
+use Rattle.sour_reader.specs.declared.raw.RawInstr.TheVariants.{Var, Drop, Assign, ArrayLength, ArrayList, Store, Print, Read, Branch, Goto, Call, Return, Stop, Assume}
 use Rattle.sour_reader.specs.declared.raw.RawLine.{RawLine}
 
 -- the names in an operand
@@ -28,6 +31,27 @@ abbrev pub each_names : List RawExpr → List (List ℕ)
 each_names [] = []
 each_names (e ∷ es) = expr_names e ++ each_names es
 
+-- the names of all of these, as F says which each has
+abbrev pub all_names : {X : Type 0} → (X → List (List ℕ)) → List X → List (List ℕ)
+all_names {X} F [] = []
+all_names {X} F (x ∷ xs) = F x ++ all_names F xs
+
+-- the names in the value that a name is given; the name itself belongs to another version
+abbrev pub bind_names : RawBind → List (List ℕ)
+bind_names bind = expr_names bind.value
+
+-- the names in the values of a map
+abbrev pub map_names : List RawBind → List (List ℕ)
+map_names binds = all_names bind_names binds
+
+-- the same of the map of an extra; the variable that gets the result belongs to another version
+abbrev pub extra_names : RawExtra → List (List ℕ)
+extra_names extra = map_names extra.map
+
+-- the names in the map of an exit, and then in those of its extras
+abbrev pub exit_names : RawExit → List (List ℕ)
+exit_names exit = map_names exit.map ++ all_names extra_names exit.extras
+
 -- the names of variables in an instruction, in the order in which they are written
 abbrev pub instr_names : RawInstr → List (List ℕ)
 instr_names (Var x e) = x ∷ expr_names e
@@ -43,6 +67,7 @@ instr_names (Goto a) = []
 instr_names (Call x callee es) = x ∷ simple_names callee ++ each_names es
 instr_names (Return e) = expr_names e
 instr_names Stop = []
+instr_names (Assume predicates exit) = each_names predicates ++ exit_names exit
 
 -- a name is put behind the others where it isn't among them
 abbrev pub with_name : List (List ℕ) → List ℕ → List (List ℕ)
@@ -61,3 +86,7 @@ with_lines names (line ∷ lines) = with_lines (with_names names (instr_names li
 -- the variables of a version with these parameters and these lines
 abbrev pub variables_of : List (List ℕ) → List RawLine → List (List ℕ)
 variables_of parameters lines = with_lines (with_names [] parameters) lines
+
+-- the names are these, or both are more than a version may have
+abbrev pub AreOrBothMany : List (List ℕ) → List (List ℕ) → Type 0
+AreOrBothMany names all = (names ≡ all) ⊎ ((1024 < length names) × (1024 < length all))

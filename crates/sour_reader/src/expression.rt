@@ -4,7 +4,7 @@ ghost use Rattle.std.specs.Prelude.{◌≡◌, ◌↔◌, ◌∷◌, Some, map, 
 ghost use Rattle.std.specs.List.{AllByRecursion};
 ghost use Rattle.sour_tokens.specs.Token.{spelling, IsOfItsKind};
 ghost use Rattle.sour_reader.specs.declared.raw.RawExpr.{RawExpr};
-ghost use Rattle.sour_reader.specs.Instruction.{SpellsExpr};
+ghost use Rattle.sour_reader.specs.Expression.{SpellsExpr};
 ghost use Rattle.sour_reader.specs.Parts.{SpellsAfter, BeginsOperand};
 
 use crate::bracket::{before_last, behind_symbol};

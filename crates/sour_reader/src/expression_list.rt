@@ -4,7 +4,7 @@ ghost use Rattle.std.specs.Prelude.{◌≡◌, ◌↔◌, List as Listed, Some, 
 ghost use Rattle.std.specs.List.{AllByRecursion};
 ghost use Rattle.sour_tokens.specs.Token.{spelling, IsOfItsKind};
 ghost use Rattle.sour_reader.specs.declared.raw.RawExpr.{RawExpr};
-ghost use Rattle.sour_reader.specs.Instruction.{SpellsEach};
+ghost use Rattle.sour_reader.specs.Expression.{SpellsExpr, SpellsEach};
 ghost use Rattle.sour_reader.specs.Parts.{SpellsSome};
 
 use crate::bracket::comma_place;
@@ -17,7 +17,7 @@ use std::alloc::{AllocError, Global};
 /// The expressions, one or more, that these tokens spell with commas between them.
 fn some_expressions(alloc: Global, tokens: &[Token]) -> Result<Option<List<RawExpr>>, AllocError>
     requires { AllByRecursion IsOfItsKind tokens.now }
-    ensures { IfOk result (λ found. (es : Listed RawExpr) → SpellsSome es (map spelling tokens.now) ↔ (found ≡ Some es)) }
+    ensures { IfOk result (λ found. (es : Listed RawExpr) → SpellsSome SpellsExpr es (map spelling tokens.now) ↔ (found ≡ Some es)) }
 {
     let mut expressions = List::new(alloc);
     let mut rest = tokens;

@@ -6,10 +6,11 @@ ghost use Rattle.std.specs.List.{AllByRecursion};
 ghost use Rattle.std.specs.Option.{option_copied};
 ghost use Rattle.sour_tokens.specs.Token.{spelling, IsOfItsKind};
 ghost use Rattle.sour_reader.specs.Name.{IsName};
+ghost use Rattle.sour_reader.specs.Plan.{plan_heading};
 ghost use Rattle.sour_reader.specs.Inputs.{inputs_heading};
 ghost use Rattle.sour_reader.specs.Job.{function_end};
 ghost use Rattle.sour_reader.specs.declared.heading.FunctionHeading.{FunctionHeading};
-ghost use Rattle.sour_reader.specs.Front.{BeginsVersionOrEnd, IsVersionHeading, ListsSome, ListsParameters, IsFunctionHeading, AreBehindFunctions};
+ghost use Rattle.sour_reader.specs.Front.{BeginsVersionOrEnd, IsVersionHeading, ListsSome, ListsParameters, IsFunctionHeading, AreBehindFunctions, AreBehindPlan};
 
 use crate::kind::{is_symbol, is_word};
 use crate::name::token_name;
@@ -86,12 +87,31 @@ pub(crate) fn is_inputs_heading(tokens: &[Token]) -> bool
     }
 }
 
-/// Whether no function begins with these tokens: they begin the inputs, or there are none.
+/// Whether these tokens begin the plan.
+pub(crate) fn is_plan_heading(tokens: &[Token]) -> bool
+    requires { AllByRecursion IsOfItsKind tokens.now }
+    ensures { IsTrue result ↔ (map spelling tokens.now ≡ plan_heading) }
+{
+    match tokens {
+        [percent, keyword] => is_symbol(percent, Symbol::Percent) && is_word(keyword, b"plan"),
+        _ => false,
+    }
+}
+
+/// Whether no job of a plan begins with these tokens: they begin the inputs, or there are none.
+pub(crate) fn are_behind_plan(tokens: &[Token]) -> bool
+    requires { AllByRecursion IsOfItsKind tokens.now }
+    ensures { IsTrue result ↔ AreBehindPlan (map spelling tokens.now) }
+{
+    tokens.is_empty() || is_inputs_heading(tokens)
+}
+
+/// Whether no function begins with these tokens: they begin the plan or the inputs, or there are none.
 pub(crate) fn are_behind_functions(tokens: &[Token]) -> bool
     requires { AllByRecursion IsOfItsKind tokens.now }
     ensures { IsTrue result ↔ AreBehindFunctions (map spelling tokens.now) }
 {
-    tokens.is_empty() || is_inputs_heading(tokens)
+    tokens.is_empty() || is_plan_heading(tokens) || is_inputs_heading(tokens)
 }
 
 /// Whether these tokens close the list of parameters.

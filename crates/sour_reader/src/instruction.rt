@@ -1,50 +1,23 @@
 //! Instructions.
 
-ghost use Rattle.std.specs.Prelude.{◌≡◌, ◌↔◌, ◌∷◌, ℕ, List, Some, map, codes, IfOk};
+ghost use Rattle.std.specs.Prelude.{◌≡◌, ◌↔◌, ◌∷◌, Some, map, codes, IfOk};
 ghost use Rattle.std.specs.List.{AllByRecursion};
-ghost use Rattle.sour_tokens.specs.Symbol.{symbol_spelling};
 ghost use Rattle.sour_tokens.specs.Token.{spelling, IsOfItsKind};
-ghost use Rattle.sour_reader.specs.declared.raw.RawExpr.{RawExpr};
 ghost use Rattle.sour_reader.specs.declared.raw.RawInstr.{RawInstr};
 ghost use Rattle.sour_reader.specs.Instruction.{SpellsInstr};
-ghost use Rattle.sour_reader.specs.Parts.{SpellsSetting, BeginsNone};
+ghost use Rattle.sour_reader.specs.Parts.{BeginsNone};
 
 use crate::array_instruction::{array_of, store_of};
+use crate::assume::assume_of;
 use crate::bracket::behind_symbol;
 use crate::call::call_of;
 use crate::expression::expression_of;
-use crate::kind::{is_symbol, is_word};
-use crate::label::{label_of, name_of, only_label, only_name};
-use crate::raw::{RawExpr, RawInstr};
-use sour_syntax::Label;
+use crate::kind::is_word;
+use crate::label::{label_of, only_label, only_name};
+use crate::raw::RawInstr;
+use crate::setting::setting_of;
 use sour_tokens::{Symbol, Token};
 use std::alloc::{AllocError, Global};
-
-/// The name that a token is, and the value that is spelled behind the sign.
-fn setting_of(
-    alloc: Global,
-    name: &Token,
-    sign: Symbol,
-    behind: &[Token],
-) -> Result<Option<(Label, RawExpr)>, AllocError>
-    requires kind { IsOfItsKind name.now }
-    requires kinds { AllByRecursion IsOfItsKind behind.now }
-    ensures { IfOk result (λ found. (setting : List ℕ × RawExpr) → SpellsSetting (symbol_spelling sign) setting.0 setting.1 (spelling name.now ∷ map spelling behind.now) ↔ (found ≡ Some setting)) }
-{
-    let Some((own, value)) = behind.split_first() else {
-        return Ok(None);
-    };
-    if !is_symbol(own, sign) {
-        return Ok(None);
-    }
-    let Some(x) = name_of(alloc, name)? else {
-        return Ok(None);
-    };
-    match expression_of(alloc, value)? {
-        Some(e) => Ok(Some((x, e))),
-        None => Ok(None),
-    }
-}
 
 /// The declaration that `var` and these tokens spell.
 fn declaration_of(alloc: Global, tokens: &[Token]) -> Result<Option<RawInstr>, AllocError>
@@ -183,6 +156,8 @@ pub fn instruction_of(alloc: Global, tokens: &[Token]) -> Result<Option<RawInstr
         return_of(alloc, rest)
     } else if is_word(first, b"stop") {
         Ok(stop_of(rest))
+    } else if is_word(first, b"assume") {
+        assume_of(alloc, rest)
     } else {
         assignment_of(alloc, first, rest)
     }

@@ -8,6 +8,7 @@ use crate::ahead::LinesAhead;
 use crate::fault::TextFault;
 use crate::function::read_functions;
 use crate::inputs::read_inputs;
+use crate::plan::read_plan;
 use crate::raw::RawJob;
 use std::alloc::Global;
 
@@ -19,8 +20,13 @@ pub fn read_job(alloc: Global, bytes: &[u8]) -> Result<RawJob, TextFault>
 {
     let mut ahead = LinesAhead::new(alloc, bytes)?;
     let functions = read_functions(alloc, &mut ahead)?;
+    let plan = read_plan(alloc, &mut ahead)?;
     let inputs = read_inputs(alloc, &mut ahead)?;
-    Ok(RawJob { functions, inputs })
+    Ok(RawJob {
+        functions,
+        plan,
+        inputs,
+    })
 }
 
 #[cfg(test)]

@@ -6,7 +6,7 @@ ghost use Rattle.std.specs.List.{AllByRecursion, list_all};
 ghost use Rattle.std.specs.Char.{is_ascii_digit};
 ghost use Rattle.sour_tokens.specs.Token.{spelling, IsOfItsKind, IsDigits};
 ghost use Rattle.sour_reader.specs.Name.{IsName};
-ghost use Rattle.sour_reader.specs.Instruction.{IsDecimal, IsAutomaticLabel, IsLabel};
+ghost use Rattle.sour_reader.specs.Label.{IsDecimal, IsAutomaticLabel, IsLabel};
 
 use crate::name::{is_name, token_name};
 use sour_syntax::Label;
@@ -41,7 +41,7 @@ fn is_decimal(digits: &[u8]) -> bool
 }
 
 /// Whether a word is a label that no text gives.
-fn is_automatic_label(word: &[u8]) -> bool
+pub(crate) fn is_automatic_label(word: &[u8]) -> bool
     ensures { IsTrue result ↔ IsAutomaticLabel word.now }
 {
     match word.split_first() {
@@ -51,7 +51,7 @@ fn is_automatic_label(word: &[u8]) -> bool
 }
 
 /// The label that a token is.
-fn token_label<'a>(token: &Token<'a>) -> Option<&'a [u8]>
+pub(crate) fn token_label<'a>(token: &Token<'a>) -> Option<&'a [u8]>
     requires { IsOfItsKind token.now }
     ensures { (label : List ℕ) → ((spelling token.now ≡ label) × IsLabel label) ↔ (option_copied result ≡ Some label) }
 {

@@ -2,8 +2,9 @@
 
 ghost use Rattle.std.specs.Prelude.{◌≡◌, ◌+◌, ◌*◌, ◌<◌, ◌^◌, ◌++◌, [], length, IfOk, OnOk};
 ghost use Rattle.sour_reader.specs.Limits.{IsShortInstr};
-ghost use Rattle.sour_reader.specs.Mentions.{simple_names, expr_names, each_names, instr_names, with_name, with_names};
+ghost use Rattle.sour_reader.specs.Mentions.{simple_names, expr_names, each_names, instr_names, with_name, with_names, AreOrBothMany};
 
+use crate::exit_mentions::add_assume;
 use crate::raw::{RawExpr, RawInstr, RawSimple};
 use sour_syntax::{Label, List, Names};
 use std::alloc::{AllocError, Global};
@@ -30,7 +31,7 @@ fn add_simple(alloc: Global, operand: &RawSimple, names: &mut Names) -> Result<(
 
 /// The same for the names in an expression.
 #[tactic(auto, using(crate::proofs::MentionLaws::with_names_append, crate::proofs::MentionLaws::with_names_length))]
-fn add_expr(alloc: Global, value: &RawExpr, names: &mut Names) -> Result<(), AllocError>
+pub(crate) fn add_expr(alloc: Global, value: &RawExpr, names: &mut Names) -> Result<(), AllocError>
     requires { length names.old + 1 < 2 ^ 32 }
     ensures { OnOk result (names.new ≡ with_names names.old (expr_names value.now)) }
 {
@@ -65,7 +66,11 @@ fn add_setting(
 }
 
 /// The same for the names in some expressions.
-fn add_each(alloc: Global, values: &List<RawExpr>, names: &mut Names) -> Result<(), AllocError>
+pub(crate) fn add_each(
+    alloc: Global,
+    values: &List<RawExpr>,
+    names: &mut Names,
+) -> Result<(), AllocError>
     requires { length names.old + 2 * length values.now < 2 ^ 32 }
     ensures { OnOk result (names.new ≡ with_names names.old (each_names values.now)) }
 {
@@ -121,7 +126,8 @@ fn add_call(
     add_each(alloc, arguments, names)
 }
 
-/// The same for the names of variables in an instruction.
+/// The same for the names of variables in an instruction. No more are put down once there are more than a
+/// version may have.
 pub(crate) fn add_instr(
     alloc: Global,
     instr: &RawInstr,
@@ -129,7 +135,7 @@ pub(crate) fn add_instr(
 ) -> Result<(), AllocError>
     requires short { IsShortInstr instr.now }
     requires room { length names.old + 2050 < 2 ^ 32 }
-    ensures { OnOk result (names.new ≡ with_names names.old (instr_names instr.now)) }
+    ensures { OnOk result (AreOrBothMany names.new (with_names names.old (instr_names instr.now))) }
 {
     match instr {
         RawInstr::Var(name, value) => add_setting(alloc, name, value, names),
@@ -145,6 +151,7 @@ pub(crate) fn add_instr(
         RawInstr::Call(name, callee, arguments) => add_call(alloc, name, callee, arguments, names),
         RawInstr::Goto(_) => Ok(()),
         RawInstr::Stop => Ok(()),
+        RawInstr::Assume(predicates, exit) => add_assume(alloc, predicates, exit, names),
     }
 }
 

@@ -4,7 +4,7 @@ ghost use Rattle.std.specs.Prelude.{◌≡◌, ◌↔◌, ◌++◌, ℕ, List, S
 ghost use Rattle.std.specs.List.{AllByRecursion};
 ghost use Rattle.sour_tokens.specs.Token.{spelling, IsOfItsKind};
 ghost use Rattle.sour_reader.specs.declared.raw.RawSimple.{RawSimple};
-ghost use Rattle.sour_reader.specs.Instruction.{SpellsSimple};
+ghost use Rattle.sour_reader.specs.Expression.{SpellsSimple};
 ghost use Rattle.sour_reader.specs.Operand.{operand_length};
 ghost use Rattle.sour_reader.specs.Parts.{SplitsSo};
 

@@ -8,6 +8,7 @@ ghost use Rattle.sour_reader.specs.Front.{HasBody, HasVersion, HasVersions};
 use crate::ahead::LinesAhead;
 use crate::fault::TextFault;
 use crate::heading::{begins_version_or_end, is_function_end, version_name};
+use crate::limits::MAX_VARIABLES;
 use crate::line::line_of;
 use crate::mentions::{add_instr, parameter_names};
 use crate::raw::{RawLine, RawVersion};
@@ -16,9 +17,6 @@ use std::alloc::Global;
 
 /// The most instructions that a version has.
 const MAX_LINES: usize = 4096;
-
-/// The most variables that a version has.
-const MAX_VARIABLES: usize = 1024;
 
 /// The most versions that a function has.
 const MAX_VERSIONS: usize = 16;

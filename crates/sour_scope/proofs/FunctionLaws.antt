@@ -3,12 +3,15 @@ use Rattle.std.proofs.Common.{◌≡◌, ◌+◌, ◌≤◌, ℕ, zero, suc, Lis
 use Rattle.std.proofs.lemmas.List.{length-map}
 use Rattle.std.specs.List.{AllByRecursion, slice_get}
 use Rattle.sour_syntax.specs.declared.program.Function.{Function}
+use Rattle.sour_syntax.specs.declared.program.Version.{Version}
 use Rattle.sour_syntax.specs.Program.{IsFunction, AreFunctions}
+use Rattle.sour_syntax.specs.Targets.{HasExits}
 use Rattle.sour_reader.specs.declared.raw.RawFunction.{RawFunction}
-use Rattle.sour_reader.specs.Job.{SpellsFunctions}
+use Rattle.sour_reader.specs.Job.{SpellsFunction, SpellsFunctions}
 use Rattle.sour_reader.specs.Limits.{IsShortFunction}
+use Rattle.sour_scope.specs.declared.outline.FunctionNames.{FunctionNames}
 use Rattle.sour_scope.specs.Numbered.{version_of, function_of, functions_of}
-use Rattle.sour_scope.specs.Checked.{IsAcceptedFunction, AreAccepted, function_names}
+use Rattle.sour_scope.specs.Checked.{IsAcceptedFunction, AreAccepted, HaveExits, function_names}
 use Rattle.sour_scope.proofs.ListLaws.{map_some}
 use Rattle.sour_scope.proofs.VersionLaws.{are_versions, versions_differ}
 
@@ -17,11 +20,11 @@ abbrev pub function_name : RawFunction → List ℕ
 function_name function = function.name
 
 -- these functions are accepted, and this is what is made of them
-pub record FunctionsSoFar (names : List (List ℕ)) (front : List RawFunction) (functions : List Function) : Type 0 where
+pub record FunctionsSoFar (names : List FunctionNames) (front : List RawFunction) (functions : List Function) : Type 0 where
   pub functions_are : functions ≡ functions_of names 0 front
   pub accepted : AreAccepted names 0 front
 
-module _ (names : List (List ℕ)) where
+module _ (names : List FunctionNames) where
   -- the functions with one more
   functions_of-push : (number last : ℕ) (front : List RawFunction) (function : RawFunction) → last ≡ number + length front
       → functions_of names number (front ++ function ∷ []) ≡ functions_of names number front ++ function_of names last function ∷ []
@@ -61,24 +64,29 @@ module _ (names : List (List ℕ)) where
   }
 
   -- the function that is made of an accepted one with versions
-  is_function : (number : ℕ) (function : RawFunction) → ¬ (function.versions ≡ []) → IsShortFunction function → IsAcceptedFunction names number function
-      → IsFunction (length names) number (function_of names number function)
-  is_function number function some short accepted =
+  is_function : (all : List Function) (number : ℕ) (function : RawFunction) (text : List (List (List ℕ))) → length names ≡ length all → SpellsFunction function text
+      → IsShortFunction function → IsAcceptedFunction names number function
+      → AllByRecursion (λ (version : Version). HasExits all [] version.body) (map (version_of names number function.parameters) function.versions)
+      → IsFunction all number (function_of names number function)
+  is_function all number function text same spelled short accepted exits =
       let count : length (map (version_of names number function.parameters) function.versions) ≡ length function.versions = length-map function.versions (version_of names number function.parameters) in record {
-        some = map_some (version_of names number function.parameters) function.versions some;
+        some = map_some (version_of names number function.parameters) function.versions spelled.some;
         names = versions_differ names number function.parameters function.versions accepted.versions;
-        parameters = length function.parameters;
-        versions = are_versions names number function.parameters function.versions short.each accepted.each;
+        parameters = function.parameters;
+        versions =
+            are_versions all names number function.parameters same accepted.parameters spelled.parameters function.versions spelled.lines spelled.versions short.each accepted.each exits;
         few_parameters = short.parameters;
         few_versions = subst (λ n. n ≤ 16) (sym count) short.versions;
       }
 
   -- the functions that are made of the accepted ones of a text
-  pub are_functions : (number : ℕ) (raw : List RawFunction) (text : List (List (List ℕ))) → SpellsFunctions raw text → AllByRecursion IsShortFunction raw
-      → AreAccepted names number raw → AreFunctions (length names) number (functions_of names number raw)
-  are_functions number [] text spells short all = tt
-  are_functions number (first ∷ raw) text (front, rest, whole, spelled, others) short all =
-      (is_function number first spelled.some short.0 all.0, are_functions (suc number) raw rest others short.1 all.1)
+  pub are_functions : (all : List Function) (number : ℕ) (raw : List RawFunction) (text : List (List (List ℕ))) → length names ≡ length all → SpellsFunctions raw text
+      → AllByRecursion IsShortFunction raw → AreAccepted names number raw → HaveExits all (functions_of names number raw) → AreFunctions all number (functions_of names number raw)
+  are_functions all number [] text same spells short accepted exits = tt
+  are_functions all number (first ∷ raw) text same (front, rest, whole, spelled, others) short accepted exits = (
+    is_function all number first front same spelled short.0 accepted.0 exits.0,
+    are_functions all (suc number) raw rest same others short.1 accepted.1 exits.1,
+  )
 
   -- the functions that are made keep their names
   pub functions_named : (number : ℕ) (raw : List RawFunction) → map (λ (function : Function). function.name) (functions_of names number raw) ≡ function_names raw

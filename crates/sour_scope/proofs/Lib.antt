@@ -1,8 +1,15 @@
 pub mod ListLaws
 pub mod NameLaws
+pub mod VariableLaws
+pub mod VariableNames
+pub mod PlainNames
+pub mod OutlineLaws
 pub mod LiteralLaws
-pub mod ExpressionLaws
 pub mod LineLaws
 pub mod VersionLaws
 pub mod FunctionLaws
+pub mod MaskLaws
+pub mod MemberLaws
+pub mod LandingLaws
+pub mod ExitLaws
 pub mod MainLaws

@@ -1,5 +1,5 @@
 -- Names and their numbers: where names differ each has one place, and keeps it when names are put behind.
-use Rattle.std.proofs.Common.{◌≡◌, ◌≢◌, inl, inr, ℕ, zero, suc, ◌+◌, Bool, true, false, cond, not, ◌||◌, List, [], ◌∷◌, ◌++◌, Some, nat_eq, map, take, get_or, ◌<◌, ◌≤◌, length, append_assoc, append-nil, Result, Ok, Err, refl, sym, ap, ◌∙◌, subst, arith}
+use Rattle.std.proofs.Common.{◌≡◌, ◌≢◌, inl, inr, ℕ, zero, suc, ◌+◌, Bool, true, false, cond, not, ◌||◌, List, [], ◌∷◌, ◌++◌, Some, nat_eq, map, take, get_or, ◌<◌, ◌≤◌, length, append-nil, Result, Ok, Err, refl, sym, ap, ◌∙◌, subst, arith}
 use Rattle.std.specs.Prelude.{◌↔◌}
 use Rattle.std.specs.Bool.{IsTrue, OnTrue}
 use Rattle.std.specs.Result.{IfOk, OnErr}
@@ -12,12 +12,10 @@ use Rattle.std.proofs.lemmas.Bool.{false≢true}
 use Rattle.std.proofs.lemmas.Bool.Decides.{Decides-eqb}
 use Rattle.std.proofs.lemmas.Option.{slice_get_within, slice_get-map, slice_get_read}
 use Rattle.std.proofs.lemmas.Map.Keys.{any_passes_from_place}
-use Rattle.sour_syntax.specs.declared.literal.FunId.{FunId}
 use Rattle.sour_syntax.specs.declared.literal.VarId.{VarId}
 use Rattle.sour_syntax.specs.Names.{Numbers}
 use Rattle.sour_syntax.specs.Program.{NamesDiffer}
 use Rattle.sour_reader.specs.Mentions.{with_name, with_names}
-use Rattle.sour_scope.specs.Numbered.{number_of, function_number}
 use Rattle.sour_syntax.proofs.Everywhere.{all_at, all_push}
 use Rattle.sour_scope.proofs.ListLaws.{slice_get-last}
 
@@ -27,7 +25,7 @@ tested a b true is other = absurd (other ((bytes_eq-Decides a b).0 is))
 tested a b false is other = is
 
 -- the test of two names that differ
-bytes_eq-other : (a b : List ℕ) → a ≢ b → bytes_eq a b ≡ false
+pub bytes_eq-other : (a b : List ℕ) → a ≢ b → bytes_eq a b ≡ false
 bytes_eq-other a b other = tested a b (bytes_eq a b) refl other
 
 -- where no two names are the same, one that stands at a place stands first there, whatever comes behind
@@ -44,7 +42,7 @@ first_place (first ∷ names) more name (suc place) differ at =
     here ∙ ap (λ test. cond (not test) (1 + position_or_len (bytes_eq name) (names ++ more)) 0) (sym (bytes_eq-other name first other))
 
 -- no name of these is the same
-none_same : (names : List (List ℕ)) (name : List ℕ) → AllByRecursion (λ other. other ≢ name) names → list_any (bytes_eq name) names ≡ false
+pub none_same : (names : List (List ℕ)) (name : List ℕ) → AllByRecursion (λ other. other ≢ name) names → list_any (bytes_eq name) names ≡ false
 none_same [] name absent = refl
 none_same (first ∷ names) name absent =
     ap (λ test. test || list_any (bytes_eq name) names) (bytes_eq-other name first (λ same. absent.0 (sym same))) ∙ none_same names name absent.1
@@ -72,29 +70,6 @@ numbered old new name x differ (inr (absent, put, place)) =
       ap (λ names. slice_get names x.0) put ∙ ap (λ n. slice_get (old ++ name ∷ []) n) place ∙ slice_get-last old name,
     )
 
--- with the name or without it the names stand in front
-chosen_front : (names : List (List ℕ)) (name : List ℕ) (test : Bool) → (more : List (List ℕ)) × (cond test names (names ++ name ∷ []) ≡ names ++ more)
-chosen_front names name true = ([], sym (append-nil names))
-chosen_front names name false = (name ∷ [], refl)
-
--- names are only put behind
-with_names-front : (names others : List (List ℕ)) → (more : List (List ℕ)) × (with_names names others ≡ names ++ more)
-with_names-front names [] = ([], sym (append-nil names))
-with_names-front names (name ∷ others) =
-    let first = chosen_front names name (list_any (bytes_eq name) names) in
-    let next = with_names-front (with_name names name) others in
-    (first.0 ++ next.0, next.1 ∙ ap (λ zs. zs ++ next.0) first.1 ∙ append_assoc names first.0 next.0)
-
--- a number doesn't change when names are put behind
-pub number_kept : (names : List (List ℕ)) (name : List ℕ) (x : VarId) → NamesDiffer names → slice_get names x.0 ≡ Some name
-    → (more : List (List ℕ)) → x ≡ number_of (with_names names more) name
-number_kept names name x differ at more =
-    let front = with_names-front names more in
-    let place : x.0 ≡ position_or_len (bytes_eq name) (with_names names more) =
-    first_place names front.0 name x.0 differ at ∙ ap (position_or_len (bytes_eq name)) (sym front.1) in
-    let made : ℕ → VarId = λ n. record { 0 = n } in
-    ap made place
-
 -- a number makes one name more at most
 within_one : (old new : List (List ℕ)) (name : List ℕ) (x : VarId) → Numbers old new name x → length new ≤ length old + 1
 within_one old new name x (inl (same, at)) =
@@ -116,12 +91,10 @@ distinct_after (Err e) old new name bound differ room ok err =
     let P : List (List ℕ) → Type 0 = NamesDiffer in
     let count : length new ≡ length old = ap length err in (subst P (sym err) differ, omega arith)
 
--- the number of the function with a name that is there
-pub function_there : (names : List (List ℕ)) (name : List ℕ) (place : ℕ) → NamesDiffer names → slice_get names place ≡ Some name
-    → record { 0 = place } ≡ function_number names name
-function_there names name place differ at =
-    let made : ℕ → FunId = λ n. record { 0 = n } in
-    ap made (first_place names [] name place differ at ∙ ap (position_or_len (bytes_eq name)) (append-nil names))
+-- the place of a name that is there
+pub place_there : (names : List (List ℕ)) (name : List ℕ) (place : ℕ) → NamesDiffer names → slice_get names place ≡ Some name
+    → place ≡ position_or_len (bytes_eq name) names
+place_there names name place differ at = first_place names [] name place differ at ∙ ap (position_or_len (bytes_eq name)) (append-nil names)
 
 -- where a name isn't there its place is behind the others
 no_place : (names : List (List ℕ)) (name : List ℕ) → AllByRecursion (λ other. other ≢ name) names → length names ≡ position_or_len (bytes_eq name) names
@@ -131,12 +104,10 @@ no_place (first ∷ names) name absent =
     let here : suc (length names) ≡ 1 + position_or_len (bytes_eq name) names = omega arith in
     here ∙ ap (λ test. cond (not test) (1 + position_or_len (bytes_eq name) names) 0) (sym (bytes_eq-other name first (λ same. absent.0 (sym same))))
 
--- the number of the function with a name that isn't there
-pub function_absent : (names : List (List ℕ)) (name : List ℕ) (count : ℕ) → count ≡ length names → AllByRecursion (λ other. other ≢ name) names
-    → record { 0 = count } ≡ function_number names name
-function_absent names name count is absent =
-    let made : ℕ → FunId = λ n. record { 0 = n } in
-    ap made (is ∙ no_place names name absent)
+-- the place of a name that isn't there
+pub place_absent : (names : List (List ℕ)) (name : List ℕ) (count : ℕ) → count ≡ length names → AllByRecursion (λ other. other ≢ name) names
+    → count ≡ position_or_len (bytes_eq name) names
+place_absent names name count is absent = is ∙ no_place names name absent
 
 -- by what the test says
 tested_new : (old new : List (List ℕ)) (name : List ℕ) (x : VarId) (test : Bool) → nat_eq x.0 (length old) ≡ test → Numbers old new name x
@@ -161,18 +132,6 @@ new_at_count old new name x count is numbers =
 pub with_names-append : (names first next : List (List ℕ)) → with_names (with_names names first) next ≡ with_names names (first ++ next)
 with_names-append names [] next = refl
 with_names-append names (name ∷ first) next = with_names-append (with_name names name) first next
-
--- a name, and then the names of two parts
-pub names_in_turn : (old first second third : List (List ℕ)) (name : List ℕ) (some others : List (List ℕ)) → first ≡ with_name old name
-    → second ≡ with_names first some → third ≡ with_names second others → third ≡ with_names old (name ∷ some ++ others)
-names_in_turn old first second third name some others first_is second_is third_is =
-    third_is ∙ ap (λ zs. with_names zs others) (second_is ∙ ap (λ zs. with_names zs some) first_is) ∙ with_names-append (with_name old name) some others
-
--- what is made by the names, whatever is put behind, is so made by the names behind further mentions too
-pub made_later : {A : Type 0} (of : List (List ℕ) → A) (before after mentions : List (List ℕ)) (value : A) → after ≡ with_names before mentions
-    → ((more : List (List ℕ)) → value ≡ of (with_names before more)) → (more : List (List ℕ)) → value ≡ of (with_names after more)
-made_later of before after mentions value is made more =
-    made (mentions ++ more) ∙ ap of (sym (ap (λ names. with_names names more) is ∙ with_names-append before mentions more))
 
 -- where no two things have the same name, none before one has its name
 pub named_before : {N : Type 0} (named : N → List ℕ) (things : List N) (place : ℕ) (thing : N) → NamesDiffer (map named things) → slice_get things place ≡ Some thing

@@ -1,64 +1,131 @@
 -- The versions so far, the body of one, and the versions that are made of accepted ones.
-use Rattle.std.proofs.Common.{◌≡◌, ◌≤◌, ℕ, List, [], ◌∷◌, length, map, refl, sym, ap, ◌∙◌, subst}
+use Rattle.std.proofs.Common.{◌≡◌, ◌≤◌, ◌<◌, ◌+◌, ◌^◌, ℕ, suc, List, [], ◌∷◌, Option, None, Some, length, map, refl, sym, ap, ◌∙◌, subst, arith}
 use Rattle.std.specs.List.{AllByRecursion}
 use Rattle.std.proofs.lemmas.Simd.{map-map}
+use Rattle.std.proofs.lemmas.List.{length-map}
 use Rattle.sour_syntax.specs.declared.literal.FunId.{FunId}
 use Rattle.sour_syntax.specs.declared.instruction.Line.{Line}
 use Rattle.sour_syntax.specs.BodyView.{BodyView}
 use Rattle.sour_syntax.specs.declared.program.Version.{Version}
-use Rattle.sour_syntax.specs.Program.{NamesDiffer, IsVersion}
+use Rattle.sour_syntax.specs.declared.program.Function.{Function}
+use Rattle.sour_syntax.specs.Limits.{IsShortInstr}
+use Rattle.sour_syntax.specs.Program.{NamesDiffer, HasLiterals, IsPlainName, IsVersion}
+use Rattle.sour_syntax.specs.Targets.{HasExits}
+use Rattle.sour_reader.specs.declared.raw.RawInstr.{RawInstr}
+use Rattle.sour_reader.specs.declared.raw.RawInstr.TheVariants.{Var, Drop, Assign, ArrayLength, ArrayList, Store, Print, Read, Branch, Goto, Call, Return, Stop, Assume}
 use Rattle.sour_reader.specs.declared.raw.RawLine.{RawLine}
-use Rattle.sour_reader.specs.Mentions.{with_names, with_lines, variables_of}
 use Rattle.sour_reader.specs.declared.raw.RawVersion.{RawVersion}
-use Rattle.sour_reader.specs.Limits.{IsShortVersion}
-use Rattle.sour_scope.specs.Numbered.{lines_of, body_of, version_of}
+use Rattle.sour_reader.specs.Instruction.{SpellsLabelled}
+use Rattle.sour_reader.specs.Job.{SpellsLines, SpellsVersions}
+use Rattle.sour_reader.specs.Limits.{IsShortVersion, HasShortInstrs, IsShortInstr as IsShortRaw}
+use Rattle.sour_reader.specs.Mentions.{variables_of}
+use Rattle.sour_reader.specs.Name.{IsName}
+use Rattle.sour_scope.specs.declared.outline.FunctionNames.{FunctionNames}
+use Rattle.sour_scope.specs.Outline.{own_names}
+use Rattle.sour_scope.specs.Numbered.{expr_of, extra_of, instr_of, label_of, lines_of, body_of, version_of}
 use Rattle.sour_scope.specs.Checked.{IsAcceptedVersion}
 use Rattle.sour_scope.proofs.LineLaws.{length-lines_of}
+use Rattle.sour_scope.proofs.PlainNames.{plain_label, plain_variables}
+use Rattle.sour_scope.proofs.VariableNames.{variables_differ, parameters_first}
 
 -- the name of a version
 abbrev pub version_name : RawVersion → List ℕ
 version_name version = version.name
 
 -- these versions are accepted, their names differ, and this is what is made of them
-pub record VersionsSoFar (functions : List (List ℕ)) (function : ℕ) (parameters : List (List ℕ)) (front : List RawVersion) (seen : List (List ℕ)) (versions : List Version) : Type 0 where
+pub record VersionsSoFar (names : List FunctionNames) (function : ℕ) (parameters : List (List ℕ)) (front : List RawVersion) (seen : List (List ℕ)) (versions : List Version) : Type 0 where
   pub seen_are : seen ≡ map version_name front
-  pub versions_are : versions ≡ map (version_of functions function parameters) front
+  pub versions_are : versions ≡ map (version_of names function parameters) front
   pub differ : NamesDiffer (map version_name front)
-  pub accepted : AllByRecursion (IsAcceptedVersion functions function parameters) front
+  pub accepted : AllByRecursion (IsAcceptedVersion names function parameters) front
 
 -- the body that is made of the parts
-pub body_is : (functions : List (List ℕ)) (function : FunId) (parameters start names variables : List (List ℕ)) (raw slice : List RawLine) (count : ℕ) (lines : List Line)
-    → count ≡ length parameters → start ≡ with_names [] parameters → slice ≡ raw → names ≡ with_lines start slice → variables ≡ names → lines ≡ lines_of functions names 0 slice
-    → record { function = function; parameters = count; variables = variables; lines = lines } ≡ body_of functions function.0 parameters raw
-body_is functions function parameters start names variables raw slice count lines count_is start_is slice_is names_are variables_are lines_are =
+pub body_is : (names : List FunctionNames) (function : FunId) (parameters own variables : List (List ℕ)) (raw first second : List RawLine) (count : ℕ) (lines : List Line)
+    → count ≡ length parameters → first ≡ raw → second ≡ raw → own ≡ variables_of parameters first → variables ≡ own → lines ≡ lines_of names own 0 second
+    → record { function = function; parameters = count; variables = variables; lines = lines } ≡ body_of names function.0 parameters raw
+body_is names function parameters own variables raw first second count lines count_is first_is second_is own_are variables_are lines_are =
     let made : ℕ → List (List ℕ) → List Line → BodyView = λ n v l. record { function = function; parameters = n; variables = v; lines = l } in
     let all : List (List ℕ) = variables_of parameters raw in
-    let names_all : names ≡ all = names_are ∙ ap (λ zs. with_lines zs slice) start_is ∙ ap (with_lines (with_names [] parameters)) slice_is in
-    ap (λ n. made n variables lines) count_is ∙ ap (λ v. made (length parameters) v lines) (variables_are ∙ names_all)
-    ∙ ap (made (length parameters) all) (lines_are ∙ ap (λ v. lines_of functions v 0 slice) names_all ∙ ap (lines_of functions all 0) slice_is)
+    let own_all : own ≡ all = own_are ∙ ap (variables_of parameters) first_is in
+    ap (λ n. made n variables lines) count_is ∙ ap (λ v. made (length parameters) v lines) (variables_are ∙ own_all)
+    ∙ ap (made (length parameters) all) (lines_are ∙ ap (λ v. lines_of names v 0 second) own_all ∙ ap (lines_of names all 0) second_is)
 
--- the versions that are made of accepted ones
-pub are_versions : (functions : List (List ℕ)) (number : ℕ) (parameters : List (List ℕ)) (versions : List RawVersion) → AllByRecursion (IsShortVersion parameters) versions
-    → AllByRecursion (IsAcceptedVersion functions number parameters) versions
-    → AllByRecursion (IsVersion (length functions) number (length parameters)) (map (version_of functions number parameters) versions)
-are_versions functions number parameters [] short all = tt
-are_versions functions number parameters (version ∷ versions) short all =
-    let count : length (lines_of functions (variables_of parameters version.lines) 0 version.lines) ≡ length version.lines =
-    length-lines_of functions (variables_of parameters version.lines) 0 version.lines in (
-      record {
-        body = all.0.body;
+-- the labels of lines that are spelled are plain
+label_plain : (label : Option (List ℕ)) (instr : RawInstr) (tokens : List (List ℕ)) (place : ℕ) → place < 2 ^ 64 → SpellsLabelled label instr tokens → IsPlainName (label_of place label)
+label_plain None instr tokens place small spells = plain_label None instr tokens place small spells
+label_plain (Some label) instr tokens place small spells = plain_label (Some label) instr tokens place small spells
+
+labels_plain : (names : List FunctionNames) (own : List (List ℕ)) (place : ℕ) (lines : List RawLine) (text : List (List (List ℕ))) → place + length lines < 2 ^ 64 → SpellsLines lines text
+    → AllByRecursion (λ (line : Line). IsPlainName line.label) (lines_of names own place lines)
+labels_plain names own place [] text small spells = tt
+labels_plain names own place (line ∷ lines) [] small spells = absurd spells
+labels_plain names own place (line ∷ lines) (tokens ∷ text) small spells = (
+  label_plain line.label line.instr tokens place (omega arith) spells.0,
+  labels_plain names own (suc place) lines text (omega arith) spells.1,
+)
+
+-- an instruction is as short as it is written
+instr_short : (names : List FunctionNames) (own : List (List ℕ)) (instr : RawInstr) → IsShortRaw instr → IsShortInstr (instr_of names own instr)
+instr_short names own (Var x e) short = tt
+instr_short names own (Drop x) short = tt
+instr_short names own (Assign x e) short = tt
+instr_short names own (ArrayLength x e) short = tt
+instr_short names own (ArrayList x es) short = subst (λ n. n ≤ 1024) (sym (length-map es (expr_of (own_names names) own))) short
+instr_short names own (Store x index e) short = tt
+instr_short names own (Print e) short = tt
+instr_short names own (Read x) short = tt
+instr_short names own (Branch e a b) short = tt
+instr_short names own (Goto a) short = tt
+instr_short names own (Call x callee es) short = subst (λ n. n ≤ 255) (sym (length-map es (expr_of (own_names names) own))) short
+instr_short names own (Return e) short = tt
+instr_short names own Stop short = tt
+instr_short names own (Assume es exit) short = (
+  subst (λ n. n ≤ 16) (sym (length-map es (expr_of (own_names names) own))) short.0,
+  subst (λ n. n ≤ 16) (sym (length-map exit.extras (extra_of names own))) short.1,
+)
+
+instrs_short : (names : List FunctionNames) (own : List (List ℕ)) (place : ℕ) (lines : List RawLine) → HasShortInstrs lines
+    → AllByRecursion (λ (line : Line). IsShortInstr line.instr) (lines_of names own place lines)
+instrs_short names own place [] short = tt
+instrs_short names own place (line ∷ lines) short = (instr_short names own line.instr short.0, instrs_short names own (suc place) lines short.1)
+
+module _ (functions : List Function) (names : List FunctionNames) (number : ℕ) (parameters : List (List ℕ)) (count : length names ≡ length functions) (differ : NamesDiffer parameters) (plain : AllByRecursion IsName parameters) where
+  -- the version that is made of an accepted one
+  is_version : (version : RawVersion) (text : List (List (List ℕ))) → SpellsLines version.lines text → IsShortVersion parameters version → IsAcceptedVersion names number parameters version
+      → HasExits functions [] (body_of names number parameters version.lines) → IsVersion functions number parameters (version_of names number parameters version)
+  is_version version text spells short accepted exits =
+      let own : List (List ℕ) = variables_of parameters version.lines in
+      let lines : List Line = lines_of names own 0 version.lines in
+      let many : length lines ≡ length version.lines = length-lines_of names own 0 version.lines in
+      let few : length version.lines ≤ 4096 = short.lines in
+      let first = parameters_first parameters version.lines differ in record {
+        body = accepted.body;
         numbered = refl;
         takes = refl;
-        literals = all.0.literals;
-        lines = subst (λ n. n ≤ 4096) (sym count) short.0.lines;
-        variables = short.0.variables;
-      },
-      are_versions functions number parameters versions short.1 all.1,
-    )
+        others = first.0;
+        variables = first.1;
+        differ = variables_differ parameters version.lines;
+        names = plain_variables parameters version.lines text plain spells;
+        labels = labels_plain names own 0 version.lines text (omega arith) spells;
+        literals = subst (λ n. HasLiterals n lines) count accepted.literals;
+        exits = exits;
+        lines = subst (λ n. n ≤ 4096) (sym many) short.lines;
+        few_variables = short.variables;
+        instrs = instrs_short names own 0 version.lines short.instrs;
+      }
+
+  -- the versions that are made of accepted ones
+  pub are_versions : (versions : List RawVersion) (text : List (List (List ℕ))) → SpellsVersions versions text → AllByRecursion (IsShortVersion parameters) versions
+      → AllByRecursion (IsAcceptedVersion names number parameters) versions
+      → AllByRecursion (λ (version : Version). HasExits functions [] version.body) (map (version_of names number parameters) versions)
+      → AllByRecursion (IsVersion functions number parameters) (map (version_of names number parameters) versions)
+  are_versions [] text spells short all exits = tt
+  are_versions (version ∷ versions) text (front, rest, whole, (lines, heading, name, spelled), others) short all exits =
+      (is_version version lines spelled short.0 all.0 exits.0, are_versions versions rest others short.1 all.1 exits.1)
 
 -- their names differ as before
-pub versions_differ : (functions : List (List ℕ)) (number : ℕ) (parameters : List (List ℕ)) (versions : List RawVersion) → NamesDiffer (map version_name versions)
-    → NamesDiffer (map (λ (version : Version). version.name) (map (version_of functions number parameters) versions))
-versions_differ functions number parameters versions differ =
+pub versions_differ : (names : List FunctionNames) (number : ℕ) (parameters : List (List ℕ)) (versions : List RawVersion) → NamesDiffer (map version_name versions)
+    → NamesDiffer (map (λ (version : Version). version.name) (map (version_of names number parameters) versions))
+versions_differ names number parameters versions differ =
     let P : List (List ℕ) → Type 0 = NamesDiffer in
-    subst P (sym (map-map (λ (version : Version). version.name) (version_of functions number parameters) versions)) differ
+    subst P (sym (map-map (λ (version : Version). version.name) (version_of names number parameters) versions)) differ

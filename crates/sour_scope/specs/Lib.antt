@@ -1,2 +1,4 @@
+pub mod Outline
 pub mod Numbered
 pub mod Checked
+pub mod Landings

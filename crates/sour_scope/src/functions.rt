@@ -1,6 +1,6 @@
 //! The functions of a text.
 
-ghost use Rattle.std.specs.Prelude.{◌≡◌, ◌≤◌, List as Listed, length, IfOk, IfSome, IfNone, OnSome};
+ghost use Rattle.std.specs.Prelude.{◌≡◌, ◌≤◌, length, IfOk, IfSome, IfNone, OnSome};
 ghost use Rattle.std.specs.List.{AllByRecursion};
 ghost use Rattle.sour_syntax.specs.Program.{NamesDiffer};
 ghost use Rattle.sour_reader.specs.Limits.{IsShortFunction};
@@ -8,6 +8,7 @@ ghost use Rattle.sour_scope.specs.Numbered.{function_of, functions_of};
 ghost use Rattle.sour_scope.specs.Checked.{IsAcceptedFunction, AreAccepted, function_names};
 
 use crate::names::{DistinctNames, are_distinct, copy_of};
+use crate::outline::Outline;
 use crate::versions::versions_of;
 use sour_reader::RawFunction;
 use sour_syntax::{FunId, Function, List};
@@ -18,18 +19,18 @@ fn function_of(
     alloc: Global,
     number: FunId,
     raw: &RawFunction,
-    names: &DistinctNames,
+    outline: &Outline,
 ) -> Result<Option<Function>, AllocError>
     requires { IsShortFunction raw.now }
-    ensures some { IfOk result (λ found. IfSome found (λ function. function ≡ function_of names.now number.0 raw.now)) }
-    ensures accepted { IfOk result (λ found. OnSome found (IsAcceptedFunction names.now number.0 raw.now)) }
-    ensures none { IfOk result (λ found. IfNone found (IsAcceptedFunction names.now number.0 raw.now → ⊥)) }
+    ensures some { IfOk result (λ found. IfSome found (λ function. function ≡ function_of outline.now number.0 raw.now)) }
+    ensures accepted { IfOk result (λ found. OnSome found (IsAcceptedFunction outline.now number.0 raw.now)) }
+    ensures none { IfOk result (λ found. IfNone found (IsAcceptedFunction outline.now number.0 raw.now → ⊥)) }
 {
     let parameters = raw.parameters.as_slice();
     if !are_distinct(alloc, parameters)? {
         return Ok(None);
     }
-    let Some(versions) = versions_of(alloc, number, parameters, raw.versions.as_slice(), names)?
+    let Some(versions) = versions_of(alloc, number, parameters, raw.versions.as_slice(), outline)?
     else {
         return Ok(None);
     };
@@ -61,17 +62,17 @@ pub(crate) fn names_of(
 pub(crate) fn functions_of(
     alloc: Global,
     raw: &[RawFunction],
-    names: &DistinctNames,
+    outline: &Outline,
 ) -> Result<Option<List<Function>>, AllocError>
     requires count { length raw.now ≤ 256 }
     requires short { AllByRecursion IsShortFunction raw.now }
-    ensures some { IfOk result (λ found. IfSome found (λ functions. functions ≡ functions_of names.now 0 raw.now)) }
-    ensures accepted { IfOk result (λ found. OnSome found (AreAccepted names.now 0 raw.now)) }
-    ensures none { IfOk result (λ found. IfNone found (AreAccepted names.now 0 raw.now → ⊥)) }
+    ensures some { IfOk result (λ found. IfSome found (λ functions. functions ≡ functions_of outline.now 0 raw.now)) }
+    ensures accepted { IfOk result (λ found. OnSome found (AreAccepted outline.now 0 raw.now)) }
+    ensures none { IfOk result (λ found. IfNone found (AreAccepted outline.now 0 raw.now → ⊥)) }
 {
     let mut functions = List::new(alloc);
     for (number, function) in raw.iter().enumerate() {
-        let Some(function) = function_of(alloc, FunId(number as u32), function, names)? else {
+        let Some(function) = function_of(alloc, FunId(number as u32), function, outline)? else {
             return Ok(None);
         };
         functions.push(function)?;

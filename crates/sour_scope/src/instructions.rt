@@ -1,57 +1,17 @@
-//! Instructions, with numbers in place of the names of variables.
+//! Instructions, with numbers in place of names.
 
-ghost use Rattle.std.specs.Prelude.{◌≡◌, ◌<◌, ◌≤◌, ◌+◌, ◌*◌, ◌^◌, ◌∷◌, ℕ, List as Listed, length, IfOk, OnOk};
-ghost use Rattle.sour_reader.specs.declared.raw.RawInstr.TheVariants.{Store, Call};
-ghost use Rattle.sour_reader.specs.Limits.{IsShortInstr};
-ghost use Rattle.sour_reader.specs.Mentions.{expr_names, instr_names, with_names};
-ghost use Rattle.sour_scope.specs.Numbered.{number_of, expr_of, instr_of};
+ghost use Rattle.std.specs.Prelude.{◌≡◌, IfOk};
+ghost use Rattle.sour_reader.specs.declared.raw.RawInstr.TheVariants.{Call};
+ghost use Rattle.sour_scope.specs.Numbered.{instr_of};
 
+use crate::exit_numbers::exit_of;
 use crate::expression_lists::each_of;
 use crate::expressions::{expr_of, simple_of};
 use crate::names::{DistinctNames, copy_of};
+use crate::outline::Outline;
 use sour_reader::{RawExpr, RawInstr, RawSimple};
-use sour_syntax::{Expr, Instr, Label, VarId};
+use sour_syntax::{Instr, Label, List};
 use std::alloc::{AllocError, Global};
-
-/// A variable, and the expression whose value is for it.
-fn with_value(
-    alloc: Global,
-    name: &Label,
-    value: &RawExpr,
-    functions: &DistinctNames,
-    names: &mut DistinctNames,
-) -> Result<(VarId, Expr), AllocError>
-    requires { length names.old + 3 < 2 ^ 32 }
-    ensures names { OnOk result (names.new ≡ with_names names.old (name.now ∷ expr_names value.now)) }
-    ensures variable { IfOk result (λ both. (more : Listed (Listed ℕ)) → both.0 ≡ number_of (with_names names.new more) name.now) }
-    ensures expr { IfOk result (λ both. (more : Listed (Listed ℕ)) → both.1 ≡ expr_of functions.now (with_names names.new more) value.now) }
-    ensures within { OnOk result (length names.new ≤ length names.old + 3) }
-{
-    let x = names.number(alloc, name)?;
-    let value = expr_of(alloc, value, functions, names)?;
-    Ok((x, value))
-}
-
-/// A write into a cell of an array.
-fn store_of(
-    alloc: Global,
-    name: &Label,
-    index: &RawSimple,
-    value: &RawExpr,
-    functions: &DistinctNames,
-    names: &mut DistinctNames,
-) -> Result<Instr, AllocError>
-    requires { length names.old + 4 < 2 ^ 32 }
-    ensures names { OnOk result (names.new ≡ with_names names.old (instr_names (Store name.now index.now value.now))) }
-    ensures instr { IfOk result (λ instr. (more : Listed (Listed ℕ)) →
-        instr ≡ instr_of functions.now (with_names names.new more) (Store name.now index.now value.now)) }
-    ensures within { OnOk result (length names.new ≤ length names.old + 4) }
-{
-    let x = names.number(alloc, name)?;
-    let index = simple_of(alloc, index, functions, names)?;
-    let value = expr_of(alloc, value, functions, names)?;
-    Ok(Instr::Store(x, index, value))
-}
 
 /// A call with its arguments.
 fn call_of(
@@ -59,67 +19,64 @@ fn call_of(
     name: &Label,
     callee: &RawSimple,
     arguments: &[RawExpr],
-    functions: &DistinctNames,
-    names: &mut DistinctNames,
+    outline: &Outline,
+    names: &DistinctNames,
 ) -> Result<Instr, AllocError>
-    requires { length names.old + 2 + 2 * length arguments.now < 2 ^ 32 }
-    ensures names { OnOk result (names.new ≡ with_names names.old (instr_names (Call name.now callee.now arguments.now))) }
-    ensures instr { IfOk result (λ instr. (more : Listed (Listed ℕ)) →
-        instr ≡ instr_of functions.now (with_names names.new more) (Call name.now callee.now arguments.now)) }
-    ensures within { OnOk result (length names.new ≤ length names.old + 2 + 2 * length arguments.now) }
+    ensures { IfOk result (λ instr. instr ≡ instr_of outline.now names.now (Call name.now callee.now arguments.now)) }
 {
-    let x = names.number(alloc, name)?;
-    let callee = simple_of(alloc, callee, functions, names)?;
+    let functions = outline.names();
+    let x = names.number(name);
+    let callee = simple_of(callee, functions, names);
     let arguments = each_of(alloc, arguments, functions, names)?;
     Ok(Instr::Call(x, callee, arguments))
 }
 
-/// The instruction that is written. Its names of variables get numbers in the order in which they are
-/// written, where they have none yet.
+/// The instruction that is written, where these are the names of the text and the variables have these
+/// names.
 pub(crate) fn instr_of(
     alloc: Global,
     raw: &RawInstr,
-    functions: &DistinctNames,
-    names: &mut DistinctNames,
+    outline: &Outline,
+    names: &DistinctNames,
 ) -> Result<Instr, AllocError>
-    requires short { IsShortInstr raw.now }
-    requires room { length names.old + 2049 < 2 ^ 32 }
-    ensures names { OnOk result (names.new ≡ with_names names.old (instr_names raw.now)) }
-    ensures instr { IfOk result (λ instr. (more : Listed (Listed ℕ)) → instr ≡ instr_of functions.now (with_names names.new more) raw.now) }
-    ensures within { OnOk result (length names.new ≤ length names.old + 2049) }
+    ensures { IfOk result (λ instr. instr ≡ instr_of outline.now names.now raw.now) }
 {
+    let functions = outline.names();
     match raw {
         RawInstr::Var(name, value) => {
-            let (x, value) = with_value(alloc, name, value, functions, names)?;
-            Ok(Instr::Var(x, value))
+            Ok(Instr::Var(names.number(name), expr_of(value, functions, names)))
         }
-        RawInstr::Drop(name) => Ok(Instr::Drop(names.number(alloc, name)?)),
+        RawInstr::Drop(name) => Ok(Instr::Drop(names.number(name))),
         RawInstr::Assign(name, value) => {
-            let (x, value) = with_value(alloc, name, value, functions, names)?;
-            Ok(Instr::Assign(x, value))
+            Ok(Instr::Assign(names.number(name), expr_of(value, functions, names)))
         }
         RawInstr::ArrayLength(name, count) => {
-            let (x, count) = with_value(alloc, name, count, functions, names)?;
-            Ok(Instr::ArrayLength(x, count))
+            Ok(Instr::ArrayLength(names.number(name), expr_of(count, functions, names)))
         }
         RawInstr::ArrayList(name, values) => {
-            let x = names.number(alloc, name)?;
-            Ok(Instr::ArrayList(x, each_of(alloc, values.as_slice(), functions, names)?))
+            let values = each_of(alloc, values.as_slice(), functions, names)?;
+            Ok(Instr::ArrayList(names.number(name), values))
         }
         RawInstr::Store(name, index, value) => {
-            store_of(alloc, name, index, value, functions, names)
+            let index = simple_of(index, functions, names);
+            let value = expr_of(value, functions, names);
+            Ok(Instr::Store(names.number(name), index, value))
         }
-        RawInstr::Print(value) => Ok(Instr::Print(expr_of(alloc, value, functions, names)?)),
-        RawInstr::Read(name) => Ok(Instr::Read(names.number(alloc, name)?)),
+        RawInstr::Print(value) => Ok(Instr::Print(expr_of(value, functions, names))),
+        RawInstr::Read(name) => Ok(Instr::Read(names.number(name))),
         RawInstr::Branch(test, first, second) => {
-            let test = expr_of(alloc, test, functions, names)?;
+            let test = expr_of(test, functions, names);
             Ok(Instr::Branch(test, copy_of(alloc, first)?, copy_of(alloc, second)?))
         }
         RawInstr::Goto(label) => Ok(Instr::Goto(copy_of(alloc, label)?)),
         RawInstr::Call(name, callee, arguments) => {
-            call_of(alloc, name, callee, arguments.as_slice(), functions, names)
+            call_of(alloc, name, callee, arguments.as_slice(), outline, names)
         }
-        RawInstr::Return(value) => Ok(Instr::Return(expr_of(alloc, value, functions, names)?)),
+        RawInstr::Return(value) => Ok(Instr::Return(expr_of(value, functions, names))),
         RawInstr::Stop => Ok(Instr::Stop),
+        RawInstr::Assume(predicates, exit) => {
+            let predicates = each_of(alloc, predicates.as_slice(), functions, names)?;
+            Ok(Instr::Assume(predicates, exit_of(alloc, exit, outline, names)?))
+        }
     }
 }

@@ -5,10 +5,14 @@
 //! function and no two labels of one version have the same name; each label that an instruction goes to
 //! is there; the last instruction of each version is `return`, `stop`, `goto` or `branch`; each variable
 //! is in scope where it is used, and isn't where it is declared, with one scope for each label whatever
-//! path leads to it; each function that an instruction or an input names is there; and there is a function
-//! `main`, without parameters.
+//! path leads to it; each function that an instruction, an input, a job of the plan or a predicate in it names is
+//! there; each target of an `assume` names a function, a version of it and a label there, and its map names
+//! variables of that version, each once, which fit the scope at that label where a path leads to the `assume`; and
+//! there is a function `main`, without parameters. The labels and the variables that a plan names aren't looked at.
 #![tactic(auto)]
 
+mod exit_numbers;
+mod exits;
 mod expression_lists;
 mod expressions;
 mod fault;
@@ -16,10 +20,16 @@ mod functions;
 mod inputs;
 mod instructions;
 mod job;
+mod landings;
 mod lines;
 mod literals;
 mod main_function;
 mod names;
+mod naming;
+mod outline;
+mod plan;
+mod plan_literals;
+mod variables;
 mod versions;
 
 pub use fault::ScopeFault;

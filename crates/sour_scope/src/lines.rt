@@ -1,12 +1,11 @@
 //! The lines of a version.
 
-ghost use Rattle.std.specs.Prelude.{◌≡◌, ◌≤◌, ℕ, List as Listed, length, IfOk, OnOk};
-ghost use Rattle.sour_reader.specs.Limits.{HasShortInstrs};
-ghost use Rattle.sour_reader.specs.Mentions.{with_names, with_lines};
+ghost use Rattle.std.specs.Prelude.{◌≡◌, ◌≤◌, length, IfOk};
 ghost use Rattle.sour_scope.specs.Numbered.{label_of, lines_of};
 
 use crate::instructions::instr_of;
 use crate::names::{DistinctNames, copy_of};
+use crate::outline::Outline;
 use sour_reader::RawLine;
 use sour_syntax::{Label, Line, List};
 use std::alloc::{AllocError, Global};
@@ -21,24 +20,20 @@ fn label_of(alloc: Global, place: u32, label: &Option<Label>) -> Result<Label, A
     }
 }
 
-/// The lines that are written. Their names of variables get numbers in the order in which they are
-/// written, where they have none yet.
+/// The lines that are written, where these are the names of the text and the variables have these names.
 pub(crate) fn lines_of(
     alloc: Global,
     raw: &[RawLine],
-    functions: &DistinctNames,
-    names: &mut DistinctNames,
+    outline: &Outline,
+    names: &DistinctNames,
 ) -> Result<List<Line>, AllocError>
-    requires short { length raw.now ≤ 4096 }
-    requires instrs { HasShortInstrs raw.now }
-    requires few { length names.old ≤ 255 }
-    ensures names { OnOk result (names.new ≡ with_lines names.old raw.now) }
-    ensures lines { IfOk result (λ lines. lines ≡ lines_of functions.now names.new 0 raw.now) }
+    requires { length raw.now ≤ 4096 }
+    ensures { IfOk result (λ lines. lines ≡ lines_of outline.now names.now 0 raw.now) }
 {
     let mut lines = List::new(alloc);
     for (place, line) in raw.iter().enumerate() {
         let label = label_of(alloc, place as u32, &line.label)?;
-        let instr = instr_of(alloc, &line.instr, functions, names)?;
+        let instr = instr_of(alloc, &line.instr, outline, names)?;
         lines.push(Line { label, instr })?;
     }
     Ok(lines)

@@ -2,13 +2,14 @@
 
 ghost use Rattle.std.specs.Prelude.{◌↔◌, IsTrue};
 ghost use Rattle.std.specs.List.{AllByRecursion};
+ghost use Rattle.sour_syntax.specs.Exits.{bound_values, extras_values, exit_values};
 ghost use Rattle.sour_syntax.specs.Literals.{IsLiteral, simple_literals, literals_of_expr, literals_of_each, literals_of};
 ghost use Rattle.sour_syntax.specs.Program.{HasLiterals};
 
-use sour_syntax::{Expr, Instr, Line, List, Literal, Simple};
+use sour_syntax::{Bind, Exit, Expr, Extra, Instr, Line, List, Literal, Simple};
 
 /// Whether a literal is one of a program with so many functions.
-fn literal_is_known(literal: Literal, functions: usize) -> bool
+pub(crate) fn literal_is_known(literal: Literal, functions: usize) -> bool
     ensures { IsTrue result ↔ IsLiteral functions literal }
 {
     match literal {
@@ -54,6 +55,38 @@ fn expressions_are_known(es: &[Expr], functions: usize) -> bool
     true
 }
 
+/// Whether the literals of the values in a map are.
+fn map_is_known(binds: &[Bind], functions: usize) -> bool
+    ensures { IsTrue result ↔ AllByRecursion (IsLiteral functions) (literals_of_each (bound_values binds.now)) }
+{
+    for bind in binds {
+        if !expression_is_known(&bind.value, functions) {
+            return false;
+        }
+    }
+    true
+}
+
+/// Whether the literals of the values in the maps of further frames are.
+fn extras_are_known(extras: &[Extra], functions: usize) -> bool
+    ensures { IsTrue result ↔ AllByRecursion (IsLiteral functions) (literals_of_each (extras_values extras.now)) }
+{
+    for extra in extras {
+        if !map_is_known(extra.map.as_slice(), functions) {
+            return false;
+        }
+    }
+    true
+}
+
+/// Whether the literals of the values in the maps of an exit are.
+fn exit_is_known(exit: &Exit, functions: usize) -> bool
+    ensures { IsTrue result ↔ AllByRecursion (IsLiteral functions) (literals_of_each (exit_values exit.now)) }
+{
+    map_is_known(exit.map.as_slice(), functions)
+        && extras_are_known(exit.extras.as_slice(), functions)
+}
+
 /// Whether the literals of an instruction are.
 fn instruction_is_known(instr: &Instr, functions: usize) -> bool
     ensures { IsTrue result ↔ AllByRecursion (IsLiteral functions) (literals_of instr.now) }
@@ -76,6 +109,9 @@ fn instruction_is_known(instr: &Instr, functions: usize) -> bool
         }
         Instr::Return(e) => expression_is_known(e, functions),
         Instr::Stop => true,
+        Instr::Assume(es, exit) => {
+            expressions_are_known(es.as_slice(), functions) && exit_is_known(exit, functions)
+        }
     }
 }
 

@@ -2,10 +2,12 @@
 
 ghost use Rattle.std.specs.Prelude.{◌≡◌, ◌≢◌, ◌<◌, ◌≤◌, ◌+◌, ◌^◌, ◌↔◌, ℕ, List, [], ◌∷◌, ◌++◌, length, IsTrue, IfOk, OnOk};
 ghost use Rattle.std.specs.Bool.{OnTrue};
-ghost use Rattle.std.specs.List.{AllByRecursion};
+ghost use Rattle.std.specs.List.{AllByRecursion, position_or_len};
+ghost use Rattle.std.specs.Str.{bytes_eq};
 ghost use Rattle.sour_syntax.specs.Program.{NamesDiffer};
-ghost use Rattle.sour_reader.specs.Mentions.{with_name, with_names};
-ghost use Rattle.sour_scope.specs.Numbered.{number_of, function_number};
+ghost use Rattle.sour_reader.specs.Mentions.{with_name};
+ghost use Rattle.sour_scope.specs.Outline.{function_number};
+ghost use Rattle.sour_scope.specs.Numbered.{number_of};
 
 use sour_syntax::{FunId, Label, Names, VarId};
 use std::alloc::{AllocError, Global};
@@ -56,27 +58,43 @@ impl DistinctNames {
         self.names.len()
     }
 
+    /// The place of a name; where it isn't there it is how many names there are.
+    fn place(&self, name: &Label) -> u32
+        ensures { result ≡ position_or_len (bytes_eq name.now) self.now }
+    {
+        match self.names.place(name.as_bytes()) {
+            Some(place) => place as u32,
+            None => self.names.len() as u32,
+        }
+    }
+
     /// The number of the function with this name, where the names are those of the functions. Where no
     /// function has it the number is how many there are.
     pub(crate) fn function(&self, name: &Label) -> FunId
         ensures { result ≡ function_number self.now name.now }
     {
-        match self.names.place(name.as_bytes()) {
-            Some(place) => FunId(place as u32),
-            None => FunId(self.names.len() as u32),
-        }
+        FunId(self.place(name))
     }
 
-    /// The number of a name, which is put behind the others where it isn't there yet. It keeps this
-    /// number, however many names are put behind.
-    pub(crate) fn number(&mut self, alloc: Global, name: &Label) -> Result<VarId, AllocError>
-        requires { length self.old + 1 < 2 ^ 32 }
-        ensures names { OnOk result (self.new ≡ with_name self.old name.now) }
-        ensures number { IfOk result (λ x. (more : List (List ℕ)) → x ≡ number_of (with_names self.new more) name.now) }
-        ensures within { OnOk result (length self.new ≤ length self.old + 1) }
+    /// The number of the variable with this name, where the names are those of the variables. Where no
+    /// variable has it the number is how many there are.
+    pub(crate) fn number(&self, name: &Label) -> VarId
+        ensures { result ≡ number_of self.now name.now }
     {
+        VarId(self.place(name))
+    }
+
+    /// Puts a name behind the others where it isn't there yet. With as many names as there are numbers
+    /// it fails as it does without memory, whether the name is there or not.
+    pub(crate) fn put(&mut self, alloc: Global, name: &Label) -> Result<(), AllocError>
+        ensures { OnOk result (self.new ≡ with_name self.old name.now) }
+    {
+        if self.names.len() >= u32::MAX as usize {
+            return Err(AllocError);
+        }
         let copy = Vec::from_slice(alloc, name.as_bytes())?;
-        self.names.add(copy)
+        self.names.add(copy)?;
+        Ok(())
     }
 
     /// Puts a name behind the others, and says whether it wasn't there before.

@@ -2,7 +2,7 @@
 
 use crate::check;
 use sour_reader::read_job;
-use sour_syntax::{Expr, FunId, Instr, Literal, Op, Simple};
+use sour_syntax::{Code, Expr, FunId, Instr, Literal, Op, Pass, PlanSimple, Simple, Start, VarId};
 use std::test::Fail;
 
 const TEXT: &[u8] = b"fun f(a, b)
@@ -14,14 +14,32 @@ end
 fun main()
 ver first
 read x
+assume x else main.second.here [y = x]
 goto again
 again: stop
 ver second
+read z
+drop z
+var y = 1
+here: print y
 stop
 end
 % inputs
 input 1 true &f
 input
+";
+
+const PLANNED: &[u8] = b"fun f(x)
+ver v
+stop
+end
+fun main()
+ver v
+stop
+end
+%plan
+job main from active: prune
+job f from text: hoist @a @b/1 x == &main; inline c active
 ";
 
 #[test]
@@ -56,5 +74,49 @@ fn takes_a_text(rt: HostRuntime) -> Result<(), Fail> {
         panic!(rt; "no function is called");
     };
     assert_eq!(rt; (x.0, callee.0, arguments.len()), (2, 1, 0));
+    Ok(())
+}
+
+#[test]
+fn takes_a_plan(rt: HostRuntime) -> Result<(), Fail> {
+    let job = check(rt.alloc(), read_job(rt.alloc(), PLANNED)?)?;
+    let [first, second] = job.plan.as_slice() else {
+        panic!(rt; "not two jobs");
+    };
+    assert_eq!(rt; (first.function.0, first.start), (1, Start::Active));
+    assert_eq!(rt; (second.function.0, second.start), (0, Start::Text));
+    let [Pass::Hoist(from, to, predicate), Pass::Inline(call, start)] = second.passes.as_slice()
+    else {
+        panic!(rt; "other passes");
+    };
+    assert_eq!(rt; from.as_bytes(), b"a".as_slice());
+    assert_eq!(rt; to.as_bytes(), b"b/1".as_slice());
+    assert_eq!(rt; call.as_bytes(), b"c".as_slice());
+    assert_eq!(rt; *start, Start::Active);
+    let (PlanSimple::Name(x), PlanSimple::Lit(Literal::Function(main))) = (
+        &predicate.left,
+        &predicate.right,
+    ) else {
+        panic!(rt; "no variable and function");
+    };
+    assert_eq!(rt; (x.as_bytes(), main.0), (b"x".as_slice(), 1));
+    Ok(())
+}
+
+#[test]
+fn numbers_an_exit(rt: HostRuntime) -> Result<(), Fail> {
+    let job = check(rt.alloc(), read_job(rt.alloc(), TEXT)?)?;
+    let function = job.program.function(FunId(1)).expect(&rt, "two functions");
+    let version = function.versions.get(0).expect(&rt, "two versions");
+    let line = version.body.lines().get(1).expect(&rt, "four lines");
+    let Instr::Assume(_, exit) = &line.instr else {
+        panic!(rt; "nothing is assumed");
+    };
+    assert_eq!(rt; exit.target.code, Code::Text(FunId(1), 1));
+    assert_eq!(rt; exit.target.label.as_bytes(), b"here".as_slice());
+    let bind = exit.map.get(0).expect(&rt, "a variable");
+    assert_eq!(rt; bind.name, VarId(1));
+    assert_eq!(rt; bind.value, Expr::Plain(Simple::Var(VarId(0))));
+    assert_eq!(rt; exit.extras.len(), 0);
     Ok(())
 }

@@ -1,10 +1,9 @@
 //! The versions of a function.
 
-ghost use Rattle.std.specs.Prelude.{◌≡◌, ◌≤◌, List as Listed, [], length, map, IfOk, IfSome, IfNone, OnSome};
+ghost use Rattle.std.specs.Prelude.{◌≡◌, ◌≤◌, length, map, IfOk, IfSome, IfNone, OnSome};
 ghost use Rattle.std.specs.List.{AllByRecursion};
 ghost use Rattle.sour_syntax.specs.Program.{NamesDiffer};
 ghost use Rattle.sour_reader.specs.declared.raw.RawVersion.{RawVersion};
-ghost use Rattle.sour_reader.specs.Mentions.{with_names};
 ghost use Rattle.sour_reader.specs.Limits.{IsShortVersion};
 ghost use Rattle.sour_scope.specs.Numbered.{version_of};
 ghost use Rattle.sour_scope.specs.Checked.{IsAcceptedVersion};
@@ -12,22 +11,11 @@ ghost use Rattle.sour_scope.specs.Checked.{IsAcceptedVersion};
 use crate::lines::lines_of;
 use crate::literals::lines_are_known;
 use crate::names::{DistinctNames, copy_of};
+use crate::outline::Outline;
+use crate::variables::variables_of;
 use sour_reader::RawVersion;
 use sour_syntax::{Body, FunId, Label, List, Version};
 use std::alloc::{AllocError, Global};
-
-/// The variables with which a version begins: the parameters.
-fn first_variables(alloc: Global, parameters: &[Label]) -> Result<DistinctNames, AllocError>
-    requires { length parameters.now ≤ 255 }
-    ensures names { IfOk result (λ names. names ≡ with_names [] parameters.now) }
-    ensures few { IfOk result (λ names. length names ≤ 255) }
-{
-    let mut names = DistinctNames::new(alloc);
-    for parameter in parameters {
-        names.number(alloc, parameter)?;
-    }
-    Ok(names)
-}
 
 /// A version of a function, where it is accepted; `None` exactly where it isn't.
 fn version_of(
@@ -35,17 +23,17 @@ fn version_of(
     function: FunId,
     parameters: &[Label],
     raw: &RawVersion,
-    functions: &DistinctNames,
+    outline: &Outline,
 ) -> Result<Option<Version>, AllocError>
     requires few { length parameters.now ≤ 255 }
     requires short { IsShortVersion parameters.now raw.now }
-    ensures some { IfOk result (λ found. IfSome found (λ version. version ≡ version_of functions.now function.0 parameters.now raw.now)) }
-    ensures accepted { IfOk result (λ found. OnSome found (IsAcceptedVersion functions.now function.0 parameters.now raw.now)) }
-    ensures none { IfOk result (λ found. IfNone found (IsAcceptedVersion functions.now function.0 parameters.now raw.now → ⊥)) }
+    ensures some { IfOk result (λ found. IfSome found (λ version. version ≡ version_of outline.now function.0 parameters.now raw.now)) }
+    ensures accepted { IfOk result (λ found. OnSome found (IsAcceptedVersion outline.now function.0 parameters.now raw.now)) }
+    ensures none { IfOk result (λ found. IfNone found (IsAcceptedVersion outline.now function.0 parameters.now raw.now → ⊥)) }
 {
-    let mut variables = first_variables(alloc, parameters)?;
-    let lines = lines_of(alloc, raw.lines.as_slice(), functions, &mut variables)?;
-    if !lines_are_known(lines.as_slice(), functions.len()) {
+    let variables = variables_of(alloc, parameters, raw.lines.as_slice())?;
+    let lines = lines_of(alloc, raw.lines.as_slice(), outline, &variables)?;
+    if !lines_are_known(lines.as_slice(), outline.len()) {
         return Ok(None);
     }
     let count = parameters.len() as u32;
@@ -63,16 +51,16 @@ pub(crate) fn versions_of(
     function: FunId,
     parameters: &[Label],
     raw: &[RawVersion],
-    functions: &DistinctNames,
+    outline: &Outline,
 ) -> Result<Option<List<Version>>, AllocError>
     requires few { length parameters.now ≤ 255 }
     requires count { length raw.now ≤ 16 }
     requires short { AllByRecursion (IsShortVersion parameters.now) raw.now }
-    ensures some { IfOk result (λ found. IfSome found (λ versions. versions ≡ map (version_of functions.now function.0 parameters.now) raw.now)) }
+    ensures some { IfOk result (λ found. IfSome found (λ versions. versions ≡ map (version_of outline.now function.0 parameters.now) raw.now)) }
     ensures differ { IfOk result (λ found. OnSome found (NamesDiffer (map (λ (version : RawVersion). version.name) raw.now))) }
-    ensures accepted { IfOk result (λ found. OnSome found (AllByRecursion (IsAcceptedVersion functions.now function.0 parameters.now) raw.now)) }
+    ensures accepted { IfOk result (λ found. OnSome found (AllByRecursion (IsAcceptedVersion outline.now function.0 parameters.now) raw.now)) }
     ensures none { IfOk result (λ found. IfNone found (NamesDiffer (map (λ (version : RawVersion). version.name) raw.now)
-        → AllByRecursion (IsAcceptedVersion functions.now function.0 parameters.now) raw.now → ⊥)) }
+        → AllByRecursion (IsAcceptedVersion outline.now function.0 parameters.now) raw.now → ⊥)) }
 {
     let mut seen = DistinctNames::new(alloc);
     let mut versions = List::new(alloc);
@@ -80,7 +68,7 @@ pub(crate) fn versions_of(
         if !seen.add(alloc, &version.name)? {
             return Ok(None);
         }
-        let Some(version) = version_of(alloc, function, parameters, version, functions)? else {
+        let Some(version) = version_of(alloc, function, parameters, version, outline)? else {
             return Ok(None);
         };
         versions.push(version)?;

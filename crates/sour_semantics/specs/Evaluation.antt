@@ -159,13 +159,29 @@ eval environment heap (expr.Length a) = length_of (cells_of heap (operand enviro
 eval environment heap (expr.Not a) = negated (truth_in (operand environment a))
 eval environment heap (expr.Binary operator a b) = applied operator (operand environment a) (operand environment b)
 
--- a value in front of others, if neither is a trap; else the first trap
-abbrev pub in_front : Result Value Trap → Result (List Value) Trap → Result (List Value) Trap
-in_front (Err trap) values = Err trap
-in_front (Ok value) (Err trap) = Err trap
-in_front (Ok value) (Ok values) = Ok (value ∷ values)
+-- what was made in front of others, if neither is a trap; else the first trap
+abbrev pub in_front : {A : Type 0} → Result A Trap → Result (List A) Trap → Result (List A) Trap
+in_front (Err trap) others = Err trap
+in_front (Ok first) (Err trap) = Err trap
+in_front (Ok first) (Ok others) = Ok (first ∷ others)
 
 -- the values of some expressions from left to right, or the first trap
 abbrev pub eval_each : Environment → Heap → List Expr → Result (List Value) Trap
 eval_each environment heap [] = Ok []
 eval_each environment heap (e ∷ es) = in_front (eval environment heap e) (eval_each environment heap es)
+
+-- whether all hold, by the truth value of the first and what the others say; the others count only where the first is true
+abbrev pub and_then : Option Bool → Result Bool Trap → Result Bool Trap
+and_then None others = Err BadType
+and_then (Some false) others = Ok false
+and_then (Some true) others = others
+
+-- the same, where the first may trap
+abbrev pub holds_before : Result Value Trap → Result Bool Trap → Result Bool Trap
+holds_before (Err trap) others = Err trap
+holds_before (Ok value) others = and_then (truth_in value) others
+
+-- whether all of some predicates hold: they are evaluated from left to right up to the first that is false or traps
+abbrev pub holds_each : Environment → Heap → List Expr → Result Bool Trap
+holds_each environment heap [] = Ok true
+holds_each environment heap (e ∷ es) = holds_before (eval environment heap e) (holds_each environment heap es)

@@ -3,5 +3,8 @@ pub mod Evaluation
 pub mod Text
 pub mod Step
 pub mod Run
+pub mod Shape
 pub mod Validity
+pub mod Agreement
+pub mod Renaming
 pub mod Block

@@ -3,6 +3,7 @@ use Rattle.sour_syntax.specs.declared.literal.FunId.{FunId}
 use Rattle.sour_syntax.specs.declared.literal.Literal.{Literal}
 use Rattle.sour_syntax.specs.declared.literal.Value.{Value}
 use Rattle.sour_syntax.specs.declared.trap.Trap.{Trap}
+use Rattle.sour_syntax.specs.BodyView.{BodyView}
 
 -- the variables of a body by their numbers, each with its value where it has one
 abbrev pub Environment : Type 0
@@ -16,8 +17,10 @@ Heap = List (List Value)
 pub data FrameCode : Type 0 where
   -- a version of the text, by its function and its place among the versions
   text : (function : FunId) (version : ℕ) → FrameCode
+  -- a body of a bundle that optimisation made, by its number, counted from 1; the bundle is held by its bodies
+  made : (bodies : List BodyView) (number : ℕ) → FrameCode
 
--- an activation of a version
+-- an activation of a body
 pub record Frame : Type 0 where
   pub code : FrameCode
   -- where it stands

@@ -1,6 +1,6 @@
-use Rattle.std.specs.Prelude.{ℕ, ◌+◌, ◌-◌, ℤ, pos, negsuc, List, [], ◌∷◌, ◌++◌, Bool, Option, None, Some, Result, Ok, Err, true, false, length, map, replicate, nat_eq, nat_lt, slice_get, slice_set, if◌then◌else◌}
+use Rattle.std.specs.Prelude.{ℕ, ◌+◌, ◌-◌, ℤ, pos, negsuc, List, [], ◌∷◌, ◌++◌, Bool, ◌&&◌, Option, None, Some, Result, Ok, Err, true, false, length, map, replicate, nat_eq, nat_lt, slice_get, slice_set, if◌then◌else◌}
 use Rattle.sour_syntax.specs.declared.instruction.Instr.{Instr}
-use Rattle.sour_syntax.specs.declared.instruction.Instr.TheVariants.{Var, Drop, Assign, ArrayLength, ArrayList, Store, Print, Read, Branch, Goto, Call, Return, Stop}
+use Rattle.sour_syntax.specs.declared.instruction.Instr.TheVariants.{Var, Drop, Assign, ArrayLength, ArrayList, Store, Print, Read, Branch, Goto, Call, Return, Stop, Assume}
 use Rattle.sour_syntax.specs.declared.expression.Simple.TheVariants as simple
 use Rattle.sour_syntax.specs.declared.instruction.Line.{Line}
 use Rattle.sour_syntax.specs.declared.literal.FunId.{FunId}
@@ -10,45 +10,56 @@ use Rattle.sour_syntax.specs.declared.literal.Literal.TheVariants.{Nil}
 use Rattle.sour_syntax.specs.declared.literal.Value.{Value}
 use Rattle.sour_syntax.specs.declared.literal.Value.TheVariants.{Plain, Array}
 use Rattle.sour_syntax.specs.declared.literal.VarId.{VarId}
-use Rattle.sour_syntax.specs.declared.program.Function.{Function}
-use Rattle.sour_syntax.specs.declared.program.Version.{Version}
+use Rattle.sour_syntax.specs.declared.exit.Code.{Code}
+use Rattle.sour_syntax.specs.declared.exit.Code.TheVariants.{Text, Made}
+use Rattle.sour_syntax.specs.declared.exit.Exit.{Exit}
 use Rattle.sour_syntax.specs.declared.trap.Trap.{Trap}
 use Rattle.sour_syntax.specs.declared.trap.Trap.TheVariants.{BadType, Bounds, NotFunction, ArgCount, HeapFull, InputEnd, OutputFull}
 use Rattle.sour_syntax.specs.BodyView.{BodyView}
+use Rattle.sour_syntax.specs.Exits.{Continuation, continuations, bound_names, bound_values}
 use Rattle.sour_syntax.specs.Labels.{from_label, first_label}
 use Rattle.sour_syntax.specs.Program.{ProgramView}
-use Rattle.sour_semantics.specs.State.{Environment, Heap, Frame, FrameCode, text, Ending, stopped, returned, trapped, stuck, State}
-use Rattle.sour_semantics.specs.Evaluation.{number_in, truth_in, function_in, operand, eval, eval_each}
+use Rattle.sour_syntax.specs.Targets.{text_body, made_body}
+use Rattle.sour_semantics.specs.State.{Environment, Heap, Frame, FrameCode, text, made, Ending, stopped, returned, trapped, stuck, State}
+use Rattle.sour_semantics.specs.Evaluation.{number_in, truth_in, function_in, operand, eval, eval_each, in_front, holds_each}
 use Rattle.sour_semantics.specs.Text.{value_text}
 
--- the version that a call enters
+-- what is published for a function: bodies, of which a call enters the last
+pub record BundleView : Type 0 where
+  pub function : FunId
+  pub bodies : List BodyView
+
+-- what a call of a function may enter
 pub data Entry : Type 0 where
-  -- the first that the text gives
+  -- the first version that the text gives
   text_version : Entry
+  -- a bundle of the function
+  bundle : (view : BundleView) → Entry
 
--- what a step may choose: which version a call enters
+-- what a step may choose
 pub record Choice : Type 0 where
+  -- what a call enters
   pub entry : Entry
+  -- whether the frame leaves at an anchor, whatever its predicates say
+  pub leaves : Bool
 
--- the choice of a run that enters text versions alone
+-- the choice of a run that enters text versions alone and leaves only where a predicate is false
 abbrev pub text_choice : Choice
-text_choice = record { entry = text_version }
+text_choice = record { entry = text_version; leaves = false }
 
-abbrev pub version_of : Option Function → ℕ → Option Version
-version_of None version = None
-version_of (Some function) version = slice_get function.versions version
+-- the body that a code names, if there is one
+abbrev pub body_at : ProgramView → FrameCode → Option BodyView
+body_at program (text function version) = text_body (slice_get program.functions function.0) version
+body_at program (made bodies number) = made_body bodies number
 
-abbrev pub body_of_version : Option Version → BodyView
-body_of_version None = record { function = record { 0 = 0 }; parameters = 0; variables = []; lines = [] }
-body_of_version (Some version) = version.body
-
--- the version that a frame runs
-abbrev pub version_of_code : ProgramView → FrameCode → Option Version
-version_of_code program (text function version) = version_of (slice_get program.functions function.0) version
+-- a body without lines where there is none
+abbrev pub body_or_empty : Option BodyView → BodyView
+body_or_empty None = record { function = record { 0 = 0 }; parameters = 0; variables = []; lines = [] }
+body_or_empty (Some body) = body
 
 -- the body that a frame runs
 abbrev pub body_of : ProgramView → FrameCode → BodyView
-body_of program code = body_of_version (version_of_code program code)
+body_of program code = body_or_empty (body_at program code)
 
 -- its lines
 abbrev pub lines_of : ProgramView → FrameCode → List Line
@@ -173,28 +184,29 @@ entered_frame code body values = record {
   waits = None;
 }
 
--- the code of a function that a call enters
+-- the code of a function that a call enters; a bundle of another function isn't entered
 abbrev pub entered_code : Entry → FunId → FrameCode
 entered_code text_version f = text f 0
+entered_code (bundle view) f = if nat_eq view.function.0 f.0 then made view.bodies (length view.bodies) else text f 0
 
 -- the top frame waits at a label for a result
 abbrev pub waits_for : VarId → List ℕ → List Frame → List Frame
 waits_for x label [] = []
 waits_for x label (frame ∷ frames) = record frame { label = label; waits = Some x.0 } ∷ frames
 
--- a version is entered, if it takes so many values: its frame is put on top, and the one below waits
-abbrev pub enters : VarId → FrameCode → Option Version → List Value → List ℕ → State → State
+-- a body is entered, if it takes so many values: its frame is put on top, and the one below waits
+abbrev pub enters : VarId → FrameCode → Option BodyView → List Value → List ℕ → State → State
 enters x code None values next s = ends (trapped NotFunction) s
-enters x code (Some version) values next s =
-    if nat_eq (length values) version.body.parameters
-    then record s { frames = entered_frame code version.body values ∷ waits_for x next s.frames }
+enters x code (Some body) values next s =
+    if nat_eq (length values) body.parameters
+    then record s { frames = entered_frame code body values ∷ waits_for x next s.frames }
     else ends (trapped ArgCount) s
 
 -- a function is called with these values, if there is one
 abbrev pub calls : ProgramView → Entry → VarId → Option FunId → List Value → List ℕ → State → State
 calls program entry x None values next s = ends (trapped NotFunction) s
 calls program entry x (Some f) values next s =
-    enters x (entered_code entry f) (version_of_code program (entered_code entry f)) values next s
+    enters x (entered_code entry f) (body_at program (entered_code entry f)) values next s
 
 -- a waiting frame gets its result
 abbrev pub resumes : Value → Frame → List Frame → Option ℕ → State → State
@@ -207,6 +219,70 @@ abbrev pub returns : Value → List Frame → State → State
 returns value [] s = ends (returned value) s
 returns value (frame ∷ []) s = ends (returned value) s
 returns value (frame ∷ below ∷ frames) s = resumes value below frames below.waits s
+
+-- the code that an exit of this code names; made code is named by made code alone
+abbrev pub exit_code : FrameCode → Code → FrameCode
+exit_code code (Text f version) = text f version
+exit_code (text function version) (Made number) = text function version
+exit_code (made bodies own) (Made number) = made bodies number
+
+-- the row in which these variables have these values
+abbrev pub bound : Environment → List VarId → List Value → Environment
+bound row [] values = row
+bound row (x ∷ xs) [] = row
+bound row (x ∷ xs) (value ∷ values) = bound (slice_set row x.0 (Some value)) xs values
+
+-- the frame that a continuation makes of the values in its map, out of a frame that runs this code
+abbrev pub landed_frame : ProgramView → FrameCode → Continuation → List Value → Frame
+landed_frame program code continuation values = record {
+  code = exit_code code continuation.target.code;
+  label = continuation.target.label;
+  environment = bound (replicate (length (body_of program (exit_code code continuation.target.code)).variables) None)
+      (bound_names continuation.binds) values;
+  waits = continuation.waits;
+}
+
+-- a frame, if its values were evaluated
+abbrev pub landed : ProgramView → FrameCode → Continuation → Result (List Value) Trap → Result Frame Trap
+landed program code continuation (Ok values) = Ok (landed_frame program code continuation values)
+landed program code continuation (Err trap) = Err trap
+
+-- the frames that some continuations make out of a frame, in order; their values are evaluated in that frame, and the first that traps ends it
+abbrev pub landed_frames : ProgramView → Frame → Heap → List Continuation → Result (List Frame) Trap
+landed_frames program frame heap [] = Ok []
+landed_frames program frame heap (continuation ∷ continuations) =
+    in_front
+    (landed program frame.code continuation (eval_each frame.environment heap (bound_values continuation.binds)))
+    (landed_frames program frame heap continuations)
+
+-- these frames take the place of the top one
+abbrev pub replaces_top : List Frame → List Frame → List Frame
+replaces_top landed [] = landed
+replaces_top landed (frame ∷ frames) = landed ++ frames
+
+-- the top frame leaves by an exit
+abbrev pub leaves : ProgramView → Frame → Exit → State → State
+leaves program frame exit s =
+    given (landed_frames program frame s.heap (continuations exit)) (λ landed. record s { frames = replaces_top landed s.frames }) s
+
+-- a label that begins with `@` is that of an anchor: an assume that a pass made
+abbrev pub is_anchor : List ℕ → Bool
+is_anchor [] = false
+is_anchor (byte ∷ bytes) = nat_eq byte 64
+
+-- an exit of an assume takes a turn, but that of an anchor takes none
+abbrev pub takes_exit_turn : Bool → State → State
+takes_exit_turn true s = s
+takes_exit_turn false s = takes_turn s
+
+-- the frame goes on where it stays, and leaves where not
+abbrev pub assumes : ProgramView → Frame → Exit → List ℕ → Bool → State → State
+assumes program frame exit next true s = goes_to next s
+assumes program frame exit next false s = leaves program frame exit (takes_exit_turn (is_anchor frame.label) s)
+
+-- whether a frame stays at an assume whose predicates say this: not where it is told to leave at an anchor
+abbrev pub stays : Choice → List ℕ → Bool → Bool
+stays choice label holds = if choice.leaves && is_anchor label then false else holds
 
 -- one instruction of the top frame; `next` is the label of the line behind it
 abbrev pub act : ProgramView → Choice → Frame → Instr → List ℕ → State → State
@@ -235,6 +311,9 @@ act program choice frame (Call x callee es) next s =
 act program choice frame (Return e) next s =
     given (eval frame.environment s.heap e) (λ value. returns value s.frames (takes_turn s)) (takes_turn s)
 act program choice frame Stop next s = ends stopped s
+act program choice frame (Assume es exit) next s =
+    given (holds_each frame.environment s.heap es)
+    (λ holds. assumes program frame exit next (stays choice frame.label holds) s) s
 
 -- the first of the lines that are left
 abbrev pub act_first : ProgramView → Choice → Frame → List Line → State → State

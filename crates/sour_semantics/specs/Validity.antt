@@ -1,14 +1,17 @@
 -- What holds at every moment of a run of a checked program.
-use Rattle.std.specs.Prelude.{◌≡◌, ◌≤◌, ◌<◌, ℕ, true, List, [], ◌∷◌, Option, None, Some, is_some, length, map, slice_set}
+use Rattle.std.specs.Prelude.{◌≡◌, ◌≤◌, ◌<◌, ℕ, List, [], ◌∷◌, Option, None, Some, is_some, length, map}
 use Rattle.std.specs.List.{AllByRecursion}
+use Rattle.sour_syntax.specs.declared.literal.Literal.{Literal}
 use Rattle.sour_syntax.specs.declared.literal.Value.{Value}
 use Rattle.sour_syntax.specs.declared.literal.Value.TheVariants.{Plain, Array}
-use Rattle.sour_syntax.specs.declared.program.Version.{Version}
+use Rattle.sour_syntax.specs.declared.literal.FunId.{FunId}
 use Rattle.sour_syntax.specs.Literals.{IsLiteral}
+use Rattle.sour_syntax.specs.BodyView.{BodyView}
 use Rattle.sour_syntax.specs.Program.{ProgramView}
-use Rattle.sour_syntax.specs.Scopes.{Scope, HasScope}
-use Rattle.sour_semantics.specs.State.{Environment, Heap, Frame, Ending, returned, stopped, trapped, stuck, State}
-use Rattle.sour_semantics.specs.Step.{version_of_code, output_limit, cell_limit, count_heap}
+use Rattle.sour_syntax.specs.Scopes.{Scope, HasScope, scope_with}
+use Rattle.sour_semantics.specs.State.{Environment, Heap, Frame, FrameCode, text, made, Ending, returned, stopped, trapped, stuck, State}
+use Rattle.sour_semantics.specs.Step.{Entry, text_version, bundle, Choice, body_at, output_limit, cell_limit, count_heap}
+use Rattle.sour_semantics.specs.Shape.{HasShape}
 
 -- a value of a run of a program with so many functions that has made so many arrays: its number lies in i64, its function or its array is there
 abbrev pub IsValue : ℕ → ℕ → Value → Type 0
@@ -24,17 +27,18 @@ IsKept functions arrays (Some value) = IsValue functions arrays value
 abbrev pub scope_of : Environment → Scope
 scope_of environment = map is_some environment
 
--- a scope together with the variable that waits for a result
-abbrev pub scope_with : Option ℕ → Scope → Scope
-scope_with None scope = scope
-scope_with (Some variable) scope = slice_set scope variable true
+-- made code is that of a bundle of the program
+abbrev pub IsCode : ProgramView → FrameCode → Type 0
+IsCode program (text function version) = Unit {0}
+IsCode program (made bodies number) = (function : FunId) × HasShape program (record { function = function; bodies = bodies })
 
--- a frame runs a version of the program, and has, with its waiting variable set, exactly the scope of its label
+-- a frame runs a version of the program or a body of a bundle of it, and has, with its waiting variable set, exactly the scope of its label
 pub record IsValidFrame (program : ProgramView) (arrays : ℕ) (frame : Frame) : Type 0 where
-  pub version : Version
-  pub runs : version_of_code program frame.code ≡ Some version
+  pub body : BodyView
+  pub runs : body_at program frame.code ≡ Some body
+  pub code : IsCode program frame.code
   pub count : ℕ
-  pub path : HasScope version.body count frame.label (scope_with frame.waits (scope_of frame.environment))
+  pub path : HasScope body count frame.label (scope_with frame.waits (scope_of frame.environment))
   pub values : AllByRecursion (IsKept (length program.functions) arrays) frame.environment
 
 -- a frame waits for the result of the one above it
@@ -67,3 +71,20 @@ pub record IsValid (program : ProgramView) (s : State) : Type 0 where
   pub input : AllByRecursion (IsLiteral (length program.functions)) s.rest
   pub output : length s.output ≤ output_limit
   pub ending : IsValidEnding program (length s.heap) s.ending s.frames
+
+-- what a call may enter: the text version, or a bundle of the program
+abbrev pub MayEnter : ProgramView → Entry → Type 0
+MayEnter program text_version = Unit {0}
+MayEnter program (bundle view) = HasShape program view
+
+-- what a step of a run of this program may choose
+abbrev pub MayChoose : ProgramView → Choice → Type 0
+MayChoose program choice = MayEnter program choice.entry
+
+-- what a run of a function with so many parameters may start with: values for them, over a heap, a rest of the input and an output so far
+pub record MayStart (program : ProgramView) (parameters : ℕ) (values : List Value) (heap : Heap) (rest : List Literal) (output : List ℕ) : Type 0 where
+  pub count : length values ≡ parameters
+  pub are : AllByRecursion (IsValue (length program.functions) (length heap)) values
+  pub heap_is : IsValidHeap program heap
+  pub input : AllByRecursion (IsLiteral (length program.functions)) rest
+  pub room : length output ≤ output_limit

@@ -5,7 +5,7 @@ use Rattle.std.proofs.lemmas.List.{length-map, length-drop}
 use Rattle.std.proofs.lemmas.List.Elements.{Contains-append_right}
 use Rattle.std.proofs.lemmas.Option.{slice_get_within}
 use Rattle.sour_syntax.specs.declared.instruction.Instr.{Instr}
-use Rattle.sour_syntax.specs.declared.instruction.Instr.TheVariants.{Var, Drop, Assign, ArrayLength, ArrayList, Store, Print, Read, Branch, Goto, Call, Return, Stop}
+use Rattle.sour_syntax.specs.declared.instruction.Instr.TheVariants.{Var, Drop, Assign, ArrayLength, ArrayList, Store, Print, Read, Branch, Goto, Call, Return, Stop, Assume}
 use Rattle.sour_syntax.specs.declared.instruction.Line.{Line}
 use Rattle.sour_syntax.specs.declared.jump.Jump.{Jump}
 use Rattle.sour_syntax.specs.Labels.{LabelsDiffer, labels_of, first_label, label_at, from_label, IsPlaceOf}
@@ -52,6 +52,7 @@ followers_are lines (Goto a) jump next goes =
 followers_are lines (Call x callee es) jump next goes = refl
 followers_are lines (Return e) jump next goes = refl
 followers_are lines Stop jump next goes = refl
+followers_are lines (Assume es exit) jump next goes = refl
 
 -- behind a line that is no terminator there is a line
 pub next_within : (lines : List Line) (place : ℕ) (line : Line) → EndsInTerminator lines → slice_get lines place ≡ Some line → (IsTerminator line.instr → ⊥) → place + 1 < length lines
@@ -78,6 +79,7 @@ follow_within lines (Goto a) jump next on goes = (IsPlaceOf-within lines a jump.
 follow_within lines (Call x callee es) jump next on goes = (on (λ no. no), tt)
 follow_within lines (Return e) jump next on goes = tt
 follow_within lines Stop jump next on goes = tt
+follow_within lines (Assume es exit) jump next on goes = (on (λ no. no), tt)
 
 -- each place that may follow is that of a line
 pub following_within : (lines : List Line) (place : ℕ) (line : Line) (jump : Jump) → EndsInTerminator lines → slice_get lines place ≡ Some line → GoesTo lines line.instr jump

@@ -3,7 +3,7 @@ use Rattle.std.proofs.Common.{◌≡◌, ℕ, zero, suc, ◌+◌, ◌<◌, List,
 use Rattle.std.specs.List.{AllByRecursion}
 use Rattle.std.proofs.lemmas.Option.{slice_get_within, get_or_from_slice_get}
 use Rattle.sour_syntax.specs.declared.instruction.Instr.{Instr}
-use Rattle.sour_syntax.specs.declared.instruction.Instr.TheVariants.{Var, Drop, Assign, ArrayLength, ArrayList, Store, Print, Read, Branch, Goto, Call, Return, Stop}
+use Rattle.sour_syntax.specs.declared.instruction.Instr.TheVariants.{Var, Drop, Assign, ArrayLength, ArrayList, Store, Print, Read, Branch, Goto, Call, Return, Stop, Assume}
 use Rattle.sour_syntax.specs.declared.instruction.Line.{Line}
 use Rattle.sour_syntax.specs.declared.jump.Jump.{Jump}
 use Rattle.sour_syntax.specs.Labels.{labels_of}
@@ -27,6 +27,7 @@ names_its labels (Goto a) jump goes = (there labels jump.first a goes, tt)
 names_its labels (Call x callee es) jump goes = tt
 names_its labels (Return e) jump goes = tt
 names_its labels Stop jump goes = tt
+names_its labels (Assume es exit) jump goes = tt
 
 name_theirs : (lines some : List Line) (jumps : List Jump) → GoTo lines some jumps → AllByRecursion (λ (line : Line). AllByRecursion (Contains (labels_of lines)) (named_labels line.instr)) some
 name_theirs lines [] [] go = tt

@@ -10,4 +10,6 @@ pub mod SpreadLaws
 pub mod LastLine
 pub mod ScopeLists
 pub mod OneLine
+pub mod NoExits
 pub mod OneFunction
+pub mod AutomaticLabels

@@ -2,7 +2,7 @@
 use Rattle.std.proofs.Common.{◌≡◌, ℕ, zero, suc, ◌+◌, ◌-◌, ◌<◌, ◌≤◌, Bool, true, false, List, [], ◌∷◌, ◌++◌, Option, None, Some, length, map, take, drop, drop-cons, get_or, slice_get, append_assoc, refl, sym, ap, ◌∙◌, subst, add-one, arith}
 use Rattle.std.proofs.lemmas.List.{length-append, length-replicate, length-set, map-append}
 use Rattle.sour_syntax.specs.declared.instruction.Instr.{Instr}
-use Rattle.sour_syntax.specs.declared.instruction.Instr.TheVariants.{Var, Drop, Assign, ArrayLength, ArrayList, Store, Print, Read, Branch, Goto, Call, Return, Stop}
+use Rattle.sour_syntax.specs.declared.instruction.Instr.TheVariants.{Var, Drop, Assign, ArrayLength, ArrayList, Store, Print, Read, Branch, Goto, Call, Return, Stop, Assume}
 use Rattle.sour_syntax.specs.declared.literal.VarId.{VarId}
 use Rattle.sour_syntax.specs.BodyView.{BodyView}
 use Rattle.sour_syntax.specs.Body.{KeepsScope, KeepsScopes}
@@ -68,6 +68,7 @@ length_after (Goto a) scope = refl
 length_after (Call x callee es) scope = length-set scope x.0 true
 length_after (Return e) scope = refl
 length_after Stop scope = refl
+length_after (Assume es exit) scope = refl
 
 -- a scope says of each variable whether it is in it
 pub length-HasScope : (body : BodyView) → body.parameters ≤ length body.variables → (count : ℕ) (label : List ℕ) (scope : Scope) → HasScope body count label scope → length scope ≡ length body.variables

@@ -2,7 +2,7 @@
 use Rattle.std.specs.Prelude.{◌≡◌, ℕ, List, [], ◌∷◌, Some, Contains, slice_get}
 use Rattle.std.specs.List.{AllByRecursion}
 use Rattle.sour_syntax.specs.declared.instruction.Instr.{Instr}
-use Rattle.sour_syntax.specs.declared.instruction.Instr.TheVariants.{Var, Drop, Assign, ArrayLength, ArrayList, Store, Print, Read, Branch, Goto, Call, Return, Stop}
+use Rattle.sour_syntax.specs.declared.instruction.Instr.TheVariants.{Var, Drop, Assign, ArrayLength, ArrayList, Store, Print, Read, Branch, Goto, Call, Return, Stop, Assume}
 use Rattle.sour_syntax.specs.declared.instruction.Line.{Line}
 use Rattle.sour_syntax.specs.declared.jump.Jump.{Jump}
 use Rattle.sour_syntax.specs.Labels.{labels_of}
@@ -22,6 +22,7 @@ named_labels (Goto a) = a ∷ []
 named_labels (Call x callee es) = []
 named_labels (Return e) = []
 named_labels Stop = []
+named_labels (Assume es exit) = []
 
 -- each label that a line names is that of a line
 abbrev pub NamesItsLabels : List Line → Type 0
@@ -42,6 +43,7 @@ GoesAmong labels (Goto a) jump = slice_get labels jump.first ≡ Some a
 GoesAmong labels (Call x callee es) jump = Unit {0}
 GoesAmong labels (Return e) jump = Unit {0}
 GoesAmong labels Stop jump = Unit {0}
+GoesAmong labels (Assume es exit) jump = Unit {0}
 
 -- among these lines the labels that an instruction names stand at the places of the jump
 abbrev pub GoesTo : List Line → Instr → Jump → Type 0

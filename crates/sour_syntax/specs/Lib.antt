@@ -2,10 +2,14 @@ pub mod Trap
 pub mod Names
 pub mod BodyView
 pub mod Labels
+pub mod Exits
 pub mod Terminator
 pub mod Jumps
 pub mod Scopes
 pub mod Body
 pub mod Literals
+pub mod Targets
+pub mod Limits
 pub mod Program
+pub mod Plan
 pub mod Spread

@@ -7,7 +7,8 @@ use Rattle.sour_syntax.specs.declared.expression.Simple.TheVariants as simple
 use Rattle.sour_syntax.specs.declared.expression.Expr.{Expr}
 use Rattle.sour_syntax.specs.declared.expression.Expr.TheVariants as expr
 use Rattle.sour_syntax.specs.declared.instruction.Instr.{Instr}
-use Rattle.sour_syntax.specs.declared.instruction.Instr.TheVariants.{Var, Drop, Assign, ArrayLength, ArrayList, Store, Print, Read, Branch, Goto, Call, Return, Stop}
+use Rattle.sour_syntax.specs.declared.instruction.Instr.TheVariants.{Var, Drop, Assign, ArrayLength, ArrayList, Store, Print, Read, Branch, Goto, Call, Return, Stop, Assume}
+use Rattle.sour_syntax.specs.Exits.{exit_values}
 
 -- whether a number lies in i64
 abbrev pub is_i64 : ℤ → Bool
@@ -54,3 +55,4 @@ literals_of (Goto a) = []
 literals_of (Call x callee es) = simple_literals callee ++ literals_of_each es
 literals_of (Return e) = literals_of_expr e
 literals_of Stop = []
+literals_of (Assume es exit) = literals_of_each es ++ literals_of_each (exit_values exit)

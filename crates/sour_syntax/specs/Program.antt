@@ -1,5 +1,6 @@
 -- What holds of every program that a text means.
-use Rattle.std.specs.Prelude.{◌≡◌, ◌≢◌, ◌≤◌, ℕ, suc, List, [], ◌∷◌, Some, length, map, slice_get, codes}
+use Rattle.std.specs.Prelude.{◌≡◌, ◌≢◌, ◌≤◌, ◌||◌, ℕ, suc, IsTrue, List, [], ◌∷◌, ◌++◌, Some, length, map, nat_eq, slice_get, codes}
+use Rattle.std.specs.Char.{is_ascii_alphabetic}
 use Rattle.std.specs.List.{AllByRecursion}
 use Rattle.sour_syntax.specs.declared.literal.FunId.{FunId}
 use Rattle.sour_syntax.specs.declared.program.Function.{Function}
@@ -7,6 +8,8 @@ use Rattle.sour_syntax.specs.declared.program.Version.{Version}
 use Rattle.sour_syntax.specs.declared.instruction.Line.{Line}
 use Rattle.sour_syntax.specs.Body.{IsBody}
 use Rattle.sour_syntax.specs.Literals.{IsLiteral, literals_of}
+use Rattle.sour_syntax.specs.Limits.{IsShortInstr}
+use Rattle.sour_syntax.specs.Targets.{HasExits}
 
 -- what contracts see of a program
 pub record ProgramView : Type 0 where
@@ -22,30 +25,49 @@ NamesDiffer (name ∷ names) = AllByRecursion (λ other. other ≢ name) names �
 abbrev pub HasLiterals : ℕ → List Line → Type 0
 HasLiterals functions lines = AllByRecursion (λ line. AllByRecursion (IsLiteral functions) (literals_of line.instr)) lines
 
--- a version of the function that has this number and so many parameters, in a program with so many functions
-pub record IsVersion (functions number parameters : ℕ) (version : Version) : Type 0 where
+-- the first byte is a letter or `_`
+abbrev pub BeginsPlain : List ℕ → Type 0
+BeginsPlain [] = ⊥
+BeginsPlain (byte ∷ bytes) = IsTrue (is_ascii_alphabetic byte || nat_eq byte 95)
+
+-- a name begins with a letter or `_`, and has no `/`
+pub record IsPlainName (name : List ℕ) : Type 0 where
+  pub begins : BeginsPlain name
+  pub whole : AllByRecursion (λ byte. byte ≢ 47) name
+
+-- a version of the function that has this number and these parameters, among these functions
+pub record IsVersion (functions : List Function) (number : ℕ) (parameters : List (List ℕ)) (version : Version) : Type 0 where
   pub body : IsBody version.body
   pub numbered : version.body.function.0 ≡ number
-  pub takes : version.body.parameters ≡ parameters
-  pub literals : HasLiterals functions version.body.lines
+  -- the parameters come first among the variables
+  pub takes : version.body.parameters ≡ length parameters
+  pub others : List (List ℕ)
+  pub variables : version.body.variables ≡ parameters ++ others
+  pub differ : NamesDiffer version.body.variables
+  pub names : AllByRecursion IsPlainName version.body.variables
+  pub labels : AllByRecursion (λ line. IsPlainName line.label) version.body.lines
+  pub literals : HasLiterals (length functions) version.body.lines
+  -- an exit leads to a version of the text
+  pub exits : HasExits functions [] version.body
   -- what a text may give a version at most
   pub lines : length version.body.lines ≤ 4096
-  pub variables : length version.body.variables ≤ 1024
+  pub few_variables : length version.body.variables ≤ 1024
+  pub instrs : AllByRecursion (λ line. IsShortInstr line.instr) version.body.lines
 
--- the function that has this number: it has a version, its versions have different names, and all have as many parameters
-pub record IsFunction (functions number : ℕ) (function : Function) : Type 0 where
+-- the function that has this number, among these functions: it has a version, its versions have different names, and all have as many parameters
+pub record IsFunction (functions : List Function) (number : ℕ) (function : Function) : Type 0 where
   pub some : ¬ (function.versions ≡ [])
   pub names : NamesDiffer (map (λ (version : Version). version.name) function.versions)
-  pub parameters : ℕ
+  pub parameters : List (List ℕ)
   pub versions : AllByRecursion (IsVersion functions number parameters) function.versions
   -- what a text may give a function at most
-  pub few_parameters : parameters ≤ 255
+  pub few_parameters : length parameters ≤ 255
   pub few_versions : length function.versions ≤ 16
 
--- some functions of a program with so many, the first of which has this number
-abbrev pub AreFunctions : ℕ → ℕ → List Function → Type 0
-AreFunctions count number [] = Unit {0}
-AreFunctions count number (function ∷ functions) = IsFunction count number function × AreFunctions count (suc number) functions
+-- some of the functions of a program, the first of which has this number
+abbrev pub AreFunctions : List Function → ℕ → List Function → Type 0
+AreFunctions functions number [] = Unit {0}
+AreFunctions functions number (function ∷ others) = IsFunction functions number function × AreFunctions functions (suc number) others
 
 -- there is a function main, it has a text version, and it has no parameters
 pub record HasMain (program : ProgramView) : Type 0 where
@@ -61,5 +83,5 @@ pub record HasMain (program : ProgramView) : Type 0 where
 pub record IsProgram (program : ProgramView) : Type 0 where
   pub names : NamesDiffer (map (λ (function : Function). function.name) program.functions)
   pub few : length program.functions ≤ 256
-  pub each : AreFunctions (length program.functions) 0 program.functions
+  pub each : AreFunctions program.functions 0 program.functions
   pub main : HasMain program

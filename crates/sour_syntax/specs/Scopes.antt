@@ -1,5 +1,5 @@
 -- Which variables are in scope where.
-use Rattle.std.specs.Prelude.{◌≡◌, ◌-◌, ◌<◌, ℕ, zero, suc, Bool, true, false, List, [], ◌∷◌, ◌++◌, Some, length, Contains, replicate, slice_get, slice_set}
+use Rattle.std.specs.Prelude.{◌≡◌, ◌-◌, ◌<◌, ℕ, zero, suc, Bool, true, false, List, [], ◌∷◌, ◌++◌, Option, None, Some, length, Contains, replicate, slice_get, slice_set}
 use Rattle.std.specs.List.{AllByRecursion}
 use Rattle.sour_syntax.specs.declared.literal.VarId.{VarId}
 use Rattle.sour_syntax.specs.declared.expression.Simple.{Simple}
@@ -7,9 +7,10 @@ use Rattle.sour_syntax.specs.declared.expression.Simple.TheVariants as simple
 use Rattle.sour_syntax.specs.declared.expression.Expr.{Expr}
 use Rattle.sour_syntax.specs.declared.expression.Expr.TheVariants as expr
 use Rattle.sour_syntax.specs.declared.instruction.Instr.{Instr}
-use Rattle.sour_syntax.specs.declared.instruction.Instr.TheVariants.{Var, Drop, Assign, ArrayLength, ArrayList, Store, Print, Read, Branch, Goto, Call, Return, Stop}
+use Rattle.sour_syntax.specs.declared.instruction.Instr.TheVariants.{Var, Drop, Assign, ArrayLength, ArrayList, Store, Print, Read, Branch, Goto, Call, Return, Stop, Assume}
 use Rattle.sour_syntax.specs.declared.instruction.Line.{Line}
 use Rattle.sour_syntax.specs.BodyView.{BodyView}
+use Rattle.sour_syntax.specs.Exits.{exit_values}
 use Rattle.sour_syntax.specs.Labels.{from_label, first_label, label_at}
 
 -- for each variable of a body, by its number, whether it is in scope
@@ -49,6 +50,7 @@ needed (Goto a) = []
 needed (Call x callee es) = simple_variables callee ++ variables_of_each es
 needed (Return e) = variables_of_expr e
 needed Stop = []
+needed (Assume es exit) = variables_of_each es ++ variables_of_each (exit_values exit)
 
 -- the variables that an instruction declares, which must not be in scope before it
 abbrev pub declared_by : Instr → List VarId
@@ -65,6 +67,7 @@ declared_by (Goto a) = []
 declared_by (Call x callee es) = []
 declared_by (Return e) = []
 declared_by Stop = []
+declared_by (Assume es exit) = []
 
 -- the variables that an instruction mentions, in the order in which they are written
 abbrev pub mentioned : Instr → List VarId
@@ -81,6 +84,7 @@ mentioned (Goto a) = []
 mentioned (Call x callee es) = x ∷ simple_variables callee ++ variables_of_each es
 mentioned (Return e) = variables_of_expr e
 mentioned Stop = []
+mentioned (Assume es exit) = variables_of_each es ++ variables_of_each (exit_values exit)
 
 -- the scope behind an instruction
 abbrev pub scope_after : Instr → Scope → Scope
@@ -97,6 +101,7 @@ scope_after (Goto a) scope = scope
 scope_after (Call x callee es) scope = slice_set scope x.0 true
 scope_after (Return e) scope = scope
 scope_after Stop scope = scope
+scope_after (Assume es exit) scope = scope
 
 -- the labels that may follow an instruction, where this one is that of the next line
 abbrev pub followers : Instr → List ℕ → List (List ℕ)
@@ -113,10 +118,16 @@ followers (Goto a) next = a ∷ []
 followers (Call x callee es) next = next ∷ []
 followers (Return e) next = []
 followers Stop next = []
+followers (Assume es exit) next = next ∷ []
 
 -- the scope at the first line: the parameters
 abbrev pub first_scope : BodyView → Scope
 first_scope body = replicate body.parameters true ++ replicate (length body.variables - body.parameters) false
+
+-- a scope together with the variable that waits for a result
+abbrev pub scope_with : Option ℕ → Scope → Scope
+scope_with None scope = scope
+scope_with (Some variable) scope = slice_set scope variable true
 
 -- a line at a label, with the lines behind it
 pub record IsLineAt (body : BodyView) (label : List ℕ) (line : Line) (rest : List Line) : Type 0 where

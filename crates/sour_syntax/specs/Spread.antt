@@ -4,7 +4,7 @@ use Rattle.sour_syntax.specs.declared.jump.Jump.{Jump}
 use Rattle.sour_syntax.specs.declared.literal.VarId.{VarId}
 use Rattle.sour_syntax.specs.declared.scope_table.ScopeTable.{ScopeTable}
 use Rattle.sour_syntax.specs.declared.instruction.Instr.{Instr}
-use Rattle.sour_syntax.specs.declared.instruction.Instr.TheVariants.{Var, Drop, Assign, ArrayLength, ArrayList, Store, Print, Read, Branch, Goto, Call, Return, Stop}
+use Rattle.sour_syntax.specs.declared.instruction.Instr.TheVariants.{Var, Drop, Assign, ArrayLength, ArrayList, Store, Print, Read, Branch, Goto, Call, Return, Stop, Assume}
 use Rattle.sour_syntax.specs.BodyView.{BodyView}
 use Rattle.sour_syntax.specs.Labels.{label_at}
 use Rattle.sour_syntax.specs.Scopes.{Scope, scope_after, members, IsFine, HasScope, IsUnreached}
@@ -28,6 +28,7 @@ following (Goto a) jump next = jump.first ∷ []
 following (Call x callee es) jump next = next ∷ []
 following (Return e) jump next = []
 following Stop jump next = []
+following (Assume es exit) jump next = next ∷ []
 
 -- the place has this scope
 pub record IsAt (rows : Rows) (place : ℕ) (scope : Scope) : Type 0 where

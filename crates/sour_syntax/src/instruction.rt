@@ -1,3 +1,4 @@
+use crate::exit::Exit;
 use crate::expression::{Expr, Simple};
 use crate::label::Label;
 use crate::list::List;
@@ -33,6 +34,8 @@ pub enum Instr {
     Return(Expr),
     /// Ends the run.
     Stop,
+    /// Goes on where each predicate is `true`, and leaves by the exit where one is `false`.
+    Assume(List<Expr>, Exit),
 }
 
 /// An instruction with its label.

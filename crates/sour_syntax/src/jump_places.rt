@@ -41,6 +41,7 @@ fn jump_of(instr: &Instr, labels: &LabelPlaces) -> Option<Jump>
         Instr::Call(_, _, _) => Some(nowhere),
         Instr::Return(_) => Some(nowhere),
         Instr::Stop => Some(nowhere),
+        Instr::Assume(_, _) => Some(nowhere),
     }
 }
 

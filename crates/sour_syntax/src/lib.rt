@@ -1,9 +1,10 @@
 //! What a program is made of: literals, expressions, instructions, bodies, versions and functions, and
-//! the program and the job that they make up. Both the code and the definitions of the language name
-//! these types.
+//! the program, the plan and the job that they make up. Both the code and the definitions of the
+//! language name these types.
 #![tactic(auto)]
 
 mod body;
+mod exit;
 mod expression;
 mod instruction;
 mod job;
@@ -16,6 +17,7 @@ mod literal;
 mod mentions;
 mod names;
 mod parts;
+mod plan;
 mod program;
 mod scope_lists;
 mod scope_table;
@@ -26,6 +28,7 @@ mod tests;
 mod trap;
 
 pub use body::Body;
+pub use exit::{Bind, Code, Exit, Extra, Target};
 pub use expression::{Expr, Op, Simple};
 pub use instruction::{Instr, Line};
 pub use job::Job;
@@ -34,5 +37,6 @@ pub use label::Label;
 pub use list::List;
 pub use literal::{ArrayId, FunId, Literal, Value, VarId};
 pub use names::Names;
+pub use plan::{Pass, PlanJob, PlanPredicate, PlanSimple, Start};
 pub use program::{Function, Program, Version};
 pub use trap::Trap;

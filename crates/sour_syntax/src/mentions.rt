@@ -2,8 +2,10 @@
 
 ghost use Rattle.std.specs.Prelude.{◌<◌, ◌↔◌, IsTrue};
 ghost use Rattle.std.specs.List.{AllByRecursion};
+ghost use Rattle.sour_syntax.specs.Exits.{bound_values, extras_values, exit_values};
 ghost use Rattle.sour_syntax.specs.Scopes.{simple_variables, variables_of_expr, variables_of_each, mentioned};
 
+use crate::exit::{Bind, Exit, Extra};
 use crate::expression::{Expr, Simple};
 use crate::instruction::{Instr, Line};
 use crate::literal::VarId;
@@ -50,6 +52,37 @@ fn expressions_among(es: &[Expr], count: usize) -> bool
     true
 }
 
+/// Whether the variables of the values in a map are among so many.
+fn map_among(binds: &[Bind], count: usize) -> bool
+    ensures { IsTrue result ↔ AllByRecursion (λ x. x.0 < count) (variables_of_each (bound_values binds.now)) }
+{
+    for bind in binds {
+        if !expression_among(&bind.value, count) {
+            return false;
+        }
+    }
+    true
+}
+
+/// Whether the variables of the values in the maps of further frames are among so many.
+fn extras_among(extras: &[Extra], count: usize) -> bool
+    ensures { IsTrue result ↔ AllByRecursion (λ x. x.0 < count) (variables_of_each (extras_values extras.now)) }
+{
+    for extra in extras {
+        if !map_among(extra.map.as_slice(), count) {
+            return false;
+        }
+    }
+    true
+}
+
+/// Whether the variables of the values in the maps of an exit are among so many.
+fn exit_among(exit: &Exit, count: usize) -> bool
+    ensures { IsTrue result ↔ AllByRecursion (λ x. x.0 < count) (variables_of_each (exit_values exit.now)) }
+{
+    map_among(exit.map.as_slice(), count) && extras_among(exit.extras.as_slice(), count)
+}
+
 /// Whether the variables that an instruction mentions are among so many.
 fn instruction_among(instr: &Instr, count: usize) -> bool
     ensures { IsTrue result ↔ AllByRecursion (λ x. x.0 < count) (mentioned instr.now) }
@@ -74,6 +107,9 @@ fn instruction_among(instr: &Instr, count: usize) -> bool
         }
         Instr::Return(e) => expression_among(e, count),
         Instr::Stop => true,
+        Instr::Assume(es, exit) => {
+            expressions_among(es.as_slice(), count) && exit_among(exit, count)
+        }
     }
 }
 

@@ -34,6 +34,7 @@ fn followers(instr: &Instr, jump: Jump, next: usize) -> (Option<usize>, Option<u
         Instr::Print(_) => (Some(next), None),
         Instr::Read(_) => (Some(next), None),
         Instr::Call(_, _, _) => (Some(next), None),
+        Instr::Assume(_, _) => (Some(next), None),
     }
 }
 

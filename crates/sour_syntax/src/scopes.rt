@@ -2,8 +2,10 @@
 
 ghost use Rattle.std.specs.Prelude.{◌≡◌, ◌<◌, ◌↔◌, Bool, IsTrue, true, false, slice_set};
 ghost use Rattle.std.specs.List.{AllByRecursion};
+ghost use Rattle.sour_syntax.specs.Exits.{bound_values, extras_values, exit_values};
 ghost use Rattle.sour_syntax.specs.Scopes.{simple_variables, variables_of_expr, variables_of_each, scope_after, IsInScope, IsOutOfScope, IsFine};
 
+use crate::exit::{Bind, Exit, Extra};
 use crate::expression::{Expr, Simple};
 use crate::instruction::Instr;
 use crate::literal::VarId;
@@ -63,6 +65,38 @@ fn each_has_variables(es: &[Expr], scope: &[bool]) -> bool
     true
 }
 
+/// Whether the variables of the values in a map are in scope.
+fn map_has_variables(binds: &[Bind], scope: &[bool]) -> bool
+    ensures { IsTrue result ↔ AllByRecursion (IsInScope scope.now) (variables_of_each (bound_values binds.now)) }
+{
+    for bind in binds {
+        if !has_variables(&bind.value, scope) {
+            return false;
+        }
+    }
+    true
+}
+
+/// Whether the variables of the values in the maps of further frames are in scope.
+fn extras_have_variables(extras: &[Extra], scope: &[bool]) -> bool
+    ensures { IsTrue result ↔ AllByRecursion (IsInScope scope.now) (variables_of_each (extras_values extras.now)) }
+{
+    for extra in extras {
+        if !map_has_variables(extra.map.as_slice(), scope) {
+            return false;
+        }
+    }
+    true
+}
+
+/// Whether the variables of the values in the maps of an exit are in scope.
+fn exit_has_variables(exit: &Exit, scope: &[bool]) -> bool
+    ensures { IsTrue result ↔ AllByRecursion (IsInScope scope.now) (variables_of_each (exit_values exit.now)) }
+{
+    map_has_variables(exit.map.as_slice(), scope)
+        && extras_have_variables(exit.extras.as_slice(), scope)
+}
+
 /// Whether an instruction may stand where this is the scope.
 pub(crate) fn is_fine(instr: &Instr, scope: &[bool]) -> bool
     ensures { IsTrue result ↔ IsFine instr.now scope.now }
@@ -87,6 +121,9 @@ pub(crate) fn is_fine(instr: &Instr, scope: &[bool]) -> bool
         }
         Instr::Return(e) => has_variables(e, scope),
         Instr::Stop => true,
+        Instr::Assume(es, exit) => {
+            each_has_variables(es.as_slice(), scope) && exit_has_variables(exit, scope)
+        }
     }
 }
 
@@ -118,5 +155,6 @@ pub(crate) fn pass(instr: &Instr, scope: &mut Vec<bool>)
         Instr::Goto(_) => (),
         Instr::Return(_) => (),
         Instr::Stop => (),
+        Instr::Assume(_, _) => (),
     }
 }

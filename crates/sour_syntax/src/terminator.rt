@@ -19,6 +19,7 @@ fn is_terminator(instr: &Instr) -> bool
         Instr::Print(_) => false,
         Instr::Read(_) => false,
         Instr::Call(_, _, _) => false,
+        Instr::Assume(_, _) => false,
         Instr::Branch(_, _, _) => true,
         Instr::Goto(_) => true,
         Instr::Return(_) => true,

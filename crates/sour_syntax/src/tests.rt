@@ -1,5 +1,5 @@
-ghost use Rattle.std.specs.Prelude.{◌≡◌, ◌≤◌, length, IfOk};
-ghost use Rattle.sour_syntax.specs.Program.{HasLiterals};
+ghost use Rattle.std.specs.Prelude.{◌≡◌, [], ◌∷◌, IfOk};
+ghost use Rattle.sour_syntax.specs.Labels.{automatic_label};
 
 use crate::{
     Body, Expr, FunId, Function, Instr, Label, Line, List, Literal, Names, Program, Simple, Trap,
@@ -34,11 +34,10 @@ fn labels_are_their_bytes(rt: HostRuntime) -> Result<(), Fail> {
 }
 
 fn body_that_returns_nil(alloc: Global) -> Result<Body, AllocError>
-    ensures parameters { IfOk result (λ body. body.parameters ≡ 0) }
     ensures function { IfOk result (λ body. body.function.0 ≡ 0) }
-    ensures literals { IfOk result (λ body. HasLiterals 1 body.lines) }
-    ensures lines { IfOk result (λ body. length body.lines ≤ 4096) }
-    ensures variables { IfOk result (λ body. length body.variables ≤ 1024) }
+    ensures parameters { IfOk result (λ body. body.parameters ≡ 0) }
+    ensures variables { IfOk result (λ body. body.variables ≡ []) }
+    ensures lines { IfOk result (λ body. body.lines ≡ record { label = automatic_label 0; instr = Instr.Return (Expr.Plain (Simple.Lit Literal.Nil)) } ∷ []) }
 {
     let label = Label::automatic(alloc, 0)?;
     let instr = Instr::Return(Expr::Plain(Simple::Lit(Literal::Nil)));
@@ -114,11 +113,10 @@ fn a_body_is_refused(rt: HostRuntime) -> Result<(), Fail> {
 }
 
 fn program_of(alloc: Global, body: Body) -> Result<Program, AllocError>
-    requires parameters { body.parameters ≡ 0 }
     requires function { body.function.0 ≡ 0 }
-    requires literals { HasLiterals 1 body.lines }
-    requires lines { length body.lines ≤ 4096 }
-    requires variables { length body.variables ≤ 1024 }
+    requires parameters { body.parameters ≡ 0 }
+    requires variables { body.variables ≡ [] }
+    requires lines { body.lines ≡ record { label = automatic_label 0; instr = Instr.Return (Expr.Plain (Simple.Lit Literal.Nil)) } ∷ [] }
 {
     let name = Label::from_bytes(Vec::from_slice(alloc, b"base")?);
     let mut versions = List::new(alloc);

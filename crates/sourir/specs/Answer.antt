@@ -5,6 +5,7 @@ use Rattle.std.specs.Io.KnownBytes.{Appends}
 use Rattle.sour_ports.specs.Cause.{HasCause}
 use Rattle.sour_ports.specs.Told.{AppendsFront}
 use Rattle.sour_syntax.specs.declared.literal.Literal.{Literal}
+use Rattle.sour_syntax.specs.declared.plan.PlanJob.{PlanJob}
 use Rattle.sour_syntax.specs.Program.{ProgramView}
 use Rattle.sour_semantics.specs.Block.{BlockEnd, RunShowsAll}
 use Rattle.sour_reader.specs.declared.raw.RawJob.{RawJob}
@@ -57,13 +58,14 @@ ReadsAsNone bytes = (raw : RawJob) → Reads bytes raw → ⊥
 -- the text reads as a job, whose names or scopes are wrong
 abbrev pub ReadsAsRefused : List ℕ → Type 0
 ReadsAsRefused bytes =
-    (raw : RawJob) × Reads bytes raw × ((program : ProgramView) (inputs : List (List Literal)) → IsChecked raw program inputs → ⊥)
+    (raw : RawJob) × Reads bytes raw × ((program : ProgramView) (plan : List PlanJob) (inputs : List (List Literal)) → IsChecked raw program plan inputs → ⊥)
 
--- the text is accepted as this program and these inputs
+-- the text is accepted as this program and these inputs, whatever its plan is
 pub record Accepts (bytes : List ℕ) (program : ProgramView) (inputs : List (List Literal)) : Type 0 where
   pub raw : RawJob
+  pub plan : List PlanJob
   pub reads : Reads bytes raw
-  pub checked : IsChecked raw program inputs
+  pub checked : IsChecked raw program plan inputs
 
 -- the text is accepted, and these are blocks of its inputs
 pub record AcceptsAndShows (bytes : List ℕ) (budget : ℕ) (ends : List BlockEnd) (written : List ℕ) : Type 0 where

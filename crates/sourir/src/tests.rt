@@ -1,6 +1,8 @@
 mod arrays;
+mod assumptions;
 mod calls;
 mod output;
+mod plan;
 
 use crate::program::sourir;
 use sour_ports::{MemorySink, MemorySource};

@@ -1,12 +1,16 @@
-//! Programs whose one function is `main`.
-ghost use Rattle.std.specs.Prelude.{◌≡◌, ◌≤◌, length, IfOk, OnOk};
+//! Programs whose one function is `main`, with the variables `x` and `y`.
+
+ghost use Rattle.std.specs.Prelude.{◌≡◌, ◌≤◌, [], ◌∷◌, length, IfOk, OnOk};
 ghost use Rattle.std.specs.List.{AllByRecursion};
+ghost use Rattle.sour_syntax.specs.Labels.{first_label};
+ghost use Rattle.sour_syntax.specs.Exits.{continuations_of};
+ghost use Rattle.sour_syntax.specs.Limits.{IsShortInstr};
 ghost use Rattle.sour_syntax.specs.Literals.{IsLiteral, literals_of};
-ghost use Rattle.sour_syntax.specs.Program.{HasLiterals};
+ghost use Rattle.sour_machine.specs.MainLines.{main_variables, main_start, LeadsBack, IsMainLine};
 
 use sour_syntax::{
-    Body, Expr, FunId, Function, Instr, Label, Line, List, Literal, Names, Op, Program, Simple,
-    Value, VarId, Version,
+    Body, Code, Exit, Expr, FunId, Function, Instr, Label, Line, List, Literal, Names, Op, Program,
+    Simple, Target, Value, VarId, Version,
 };
 use std::alloc::{AllocError, Global};
 use std::sync::Arc;
@@ -17,33 +21,48 @@ pub(super) fn plain(literal: Literal) -> Expr
     Expr::Plain(Simple::Lit(literal))
 }
 
-fn label_of(alloc: Global, name: u8) -> Result<Label, AllocError> {
+pub(super) fn label_of(alloc: Global, name: u8) -> Result<Label, AllocError>
+    ensures { IfOk result (λ label. label ≡ name ∷ []) }
+{
     Ok(Label::from_bytes(vec![in alloc; name]?))
 }
 
 /// Puts a line behind the others whose label is this byte.
 fn put(alloc: Global, lines: &mut List<Line>, name: u8, instr: Instr) -> Result<(), AllocError>
-    requires before { HasLiterals 1 lines.old }
+    requires before { AllByRecursion IsMainLine lines.old }
+    requires from { 97 ≤ name }
+    requires to { name ≤ 122 }
     requires literals { AllByRecursion (IsLiteral 1) (literals_of instr) }
-    ensures { OnOk result (HasLiterals 1 lines.new) }
+    requires short { IsShortInstr instr }
+    requires back { AllByRecursion LeadsBack (continuations_of instr) }
+    ensures { OnOk result (AllByRecursion IsMainLine lines.new) }
 {
     let label = label_of(alloc, name)?;
     lines.push(Line { label, instr })?;
     Ok(())
 }
 
-/// A program whose `main` has these lines alone, where they are those of a body.
-fn program_of(
-    alloc: Global,
-    variables: Names,
-    lines: List<Line>,
-) -> Result<Option<Arc<Program>>, AllocError>
-    requires { HasLiterals 1 lines }
+/// The variables, none of which is a parameter.
+fn variables(alloc: Global) -> Result<Names, AllocError>
+    ensures { IfOk result (λ names. names ≡ main_variables) }
 {
-    if variables.len() > 1024 || lines.len() > 4096 {
+    let mut names = Names::new(alloc);
+    names.add(vec![in alloc; b'x']?)?;
+    names.add(vec![in alloc; b'y']?)?;
+    Ok(names)
+}
+
+/// A program whose `main` has these lines alone, where they are those of a body and the first is `a`.
+fn program_of(alloc: Global, lines: List<Line>) -> Result<Option<Arc<Program>>, AllocError>
+    requires { AllByRecursion IsMainLine lines }
+{
+    let Some(first) = lines.get(0) else {
+        return Ok(None);
+    };
+    if first.label.as_bytes() != b"a".as_slice() || lines.len() > 4096 {
         return Ok(None);
     }
-    match Body::checked(alloc, FunId(0), 0, variables, lines)? {
+    match Body::checked(alloc, FunId(0), 0, variables(alloc)?, lines)? {
         Some(body) => Ok(Some(program_of_body(alloc, body)?)),
         None => Ok(None),
     }
@@ -52,9 +71,10 @@ fn program_of(
 fn program_of_body(alloc: Global, body: Body) -> Result<Arc<Program>, AllocError>
     requires function { body.function.0 ≡ 0 }
     requires parameters { body.parameters ≡ 0 }
-    requires literals { HasLiterals 1 body.lines }
+    requires variables { body.variables ≡ main_variables }
+    requires start { first_label body.lines ≡ main_start }
+    requires each { AllByRecursion IsMainLine body.lines }
     requires lines { length body.lines ≤ 4096 }
-    requires variables { length body.variables ≤ 1024 }
 {
     // What these two ensure is all that holds of every body.
     let _ = body.lines();
@@ -72,6 +92,44 @@ fn program_of_body(alloc: Global, body: Body) -> Result<Arc<Program>, AllocError
     Ok(Arc::new(alloc, program)?)
 }
 
+/// An assume of two literals, which leaves for the start.
+fn assume(alloc: Global, first: Literal, second: Literal) -> Result<Instr, AllocError>
+    requires first { IsLiteral 1 first }
+    requires second { IsLiteral 1 second }
+    ensures literals { IfOk result (λ instr. AllByRecursion (IsLiteral 1) (literals_of instr)) }
+    ensures short { IfOk result (λ instr. IsShortInstr instr) }
+    ensures back { IfOk result (λ instr. AllByRecursion LeadsBack (continuations_of instr)) }
+{
+    let predicates = List::from_vec(vec![in alloc; plain(first), plain(second)]?);
+    let target = Target {
+        code: Code::Text(FunId(0), 0),
+        label: label_of(alloc, b'a')?,
+    };
+    let exit = Exit {
+        target,
+        map: List::new(alloc),
+        extras: List::new(alloc),
+    };
+    Ok(Instr::Assume(predicates, exit))
+}
+
+/// A program that prints 7, assumes two literals, and stops; where one is false it begins again.
+pub(super) fn assuming(
+    alloc: Global,
+    first: Literal,
+    second: Literal,
+) -> Result<Option<Arc<Program>>, AllocError>
+    requires first { IsLiteral 1 first }
+    requires second { IsLiteral 1 second }
+{
+    let mut lines = List::new(alloc);
+    let printed = plain(Literal::Number(7));
+    put(alloc, &mut lines, b'a', Instr::Print(printed))?;
+    put(alloc, &mut lines, b'b', assume(alloc, first, second)?)?;
+    put(alloc, &mut lines, b'c', Instr::Stop)?;
+    program_of(alloc, lines)
+}
+
 /// A program that prints a value and then stops or goes back to the start.
 pub(super) fn printing(
     alloc: Global,
@@ -87,7 +145,7 @@ pub(super) fn printing(
     } else {
         put(alloc, &mut lines, b'b', Instr::Stop)?;
     }
-    program_of(alloc, Names::new(alloc), lines)
+    program_of(alloc, lines)
 }
 
 /// A program that reads a number, adds 1 to it, prints the sum, and returns what it reads next.
@@ -101,9 +159,7 @@ pub(super) fn reading(alloc: Global) -> Result<Option<Arc<Program>>, AllocError>
     put(alloc, &mut lines, b'c', Instr::Print(value))?;
     put(alloc, &mut lines, b'd', Instr::Read(x))?;
     put(alloc, &mut lines, b'e', Instr::Return(value))?;
-    let mut names = Names::new(alloc);
-    names.add(vec![in alloc; b'x']?)?;
-    program_of(alloc, names, lines)
+    program_of(alloc, lines)
 }
 
 /// A program whose `main` reads a truth value. Where it is false it returns an array `[nil, nil]`. Where
@@ -146,8 +202,5 @@ pub(super) fn calling(alloc: Global) -> Result<Option<Arc<Program>>, AllocError>
         Instr::ArrayLength(y, plain(Literal::Number(2))),
     )?;
     put(alloc, &mut lines, b'i', Instr::Return(array))?;
-    let mut names = Names::new(alloc);
-    names.add(vec![in alloc; b'x']?)?;
-    names.add(vec![in alloc; b'y']?)?;
-    program_of(alloc, names, lines)
+    program_of(alloc, lines)
 }

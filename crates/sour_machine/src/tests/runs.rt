@@ -1,7 +1,7 @@
 ghost use Rattle.std.specs.Prelude.{◌≤◌};
 ghost use Rattle.sour_syntax.specs.Literals.{IsLiteral};
 
-use super::programs::{calling, printing, reading};
+use super::programs::{assuming, calling, printing, reading};
 use crate::{Advance, End, Report, Run};
 use sour_syntax::{ArrayId, FunId, List, Literal, Program, Trap, Value};
 use std::alloc::{AllocError, Global};
@@ -95,6 +95,56 @@ fn rests_before_a_turn(rt: HostRuntime) -> Result<(), Fail> {
         [report.input, report.read, report.turns, report.calls],
         [1, 0, 2, 1]
     );
+    Ok(())
+}
+
+/// What a program answers that assumes these two literals, and the report on it.
+fn assumed(
+    alloc: Global,
+    first: Literal,
+    second: Literal,
+    turns: u64,
+) -> Result<Option<(Advance, Report)>, AllocError>
+    requires first { IsLiteral 1 first }
+    requires second { IsLiteral 1 second }
+    requires turns { turns ≤ 10000000 }
+{
+    match assuming(alloc, first, second)? {
+        Some(program) => Ok(Some(run(alloc, program, &[], turns)?)),
+        None => Ok(None),
+    }
+}
+
+#[test]
+fn passes_an_assume_without_a_turn(rt: HostRuntime) -> Result<(), Fail> {
+    let holds = Literal::Truth(true);
+    let (answer, report) = assumed(rt.alloc(), holds, holds, 0)?.expect(&rt, "a body");
+    assert_eq!(rt; answer, Advance::Ended);
+    assert_eq!(rt; report.end, End::Stopped);
+    assert_eq!(rt; report.output.as_slice(), b"7\n".as_slice());
+    assert_eq!(rt; [report.turns, report.calls], [0, 1]);
+
+    let (answer, report) = assumed(rt.alloc(), holds, Literal::Nil, 0)?.expect(&rt, "a body");
+    assert_eq!(rt; answer, Advance::Ended);
+    assert_eq!(rt; report.end, End::Trapped(Trap::BadType));
+    assert_eq!(rt; report.turns, 0);
+    Ok(())
+}
+
+#[test]
+fn leaves_where_a_predicate_is_false(rt: HostRuntime) -> Result<(), Fail> {
+    let fails = Literal::Truth(false);
+    let (answer, report) = assumed(rt.alloc(), fails, Literal::Nil, 0)?.expect(&rt, "a body");
+    assert_eq!(rt; answer, Advance::MoreTurns);
+    assert_eq!(rt; report.end, End::Cut);
+    assert_eq!(rt; report.output.as_slice(), b"7\n".as_slice());
+    assert_eq!(rt; report.turns, 0);
+
+    let (answer, report) = assumed(rt.alloc(), fails, Literal::Nil, 2)?.expect(&rt, "a body");
+    assert_eq!(rt; answer, Advance::MoreTurns);
+    assert_eq!(rt; report.end, End::Cut);
+    assert_eq!(rt; report.output.as_slice(), b"7\n7\n7\n".as_slice());
+    assert_eq!(rt; [report.turns, report.calls], [2, 1]);
     Ok(())
 }
 

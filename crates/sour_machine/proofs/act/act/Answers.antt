@@ -1,5 +1,7 @@
-use Rattle.std.proofs.Common.{◌+◌, sym, subst}
+use Rattle.std.proofs.Common.{rules, ◌≡◌, ◌+◌, List, [], ◌∷◌, true, sym, subst}
+use Rattle.sour_syntax.specs.declared.expression.Expr.{Expr}
 use Rattle.sour_syntax.specs.declared.instruction.Instr.{Instr}
+use Rattle.sour_syntax.specs.declared.instruction.Instr.TheVariants.{Assume}
 use Rattle.sour_syntax.specs.Spread.{following}
 use Rattle.sour_machine.specs.Instruction.{ComesTo}
 use Rattle.sour_machine.proofs.act.act.Goals as goal
@@ -17,3 +19,13 @@ returns-in-Goto-clause-comes c = λ ok.
     let new = c.goto.new.moment in
     let Comes : Instr → Type 0 = λ instr. ComesTo instr (following instr c.args.jump (old.frame.place + 1)) old.frame.env new new.end in
     subst Comes (sym c.in-Goto.is) (c.goto.ensures.comes c.in-Goto.field-0)
+
+pub returns-else-not-stays-clause-comes : goal.returns-else-not-stays-clause-comes
+returns-else-not-stays-clause-comes c = λ ok.
+    let old = c.args.moment.now in
+    let new = c.stays.new.moment in
+    let exit = c.in-Assume.field-1 in
+    let stays : c.stays.result ≡ true = search rules in
+    let Assumes : List Expr → Type 0 = λ es. ComesTo (Assume es exit) ((old.frame.place + 1) ∷ []) old.frame.env new new.end in
+    let Comes : Instr → Type 0 = λ instr. ComesTo instr (following instr c.args.jump (old.frame.place + 1)) old.frame.env new new.end in
+    subst Comes (sym c.in-Assume.is) (subst Assumes c.as_slice-in-Assume.ensures (c.stays.ensures.comes stays exit))

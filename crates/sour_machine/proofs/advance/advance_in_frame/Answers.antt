@@ -1,4 +1,4 @@
-use Rattle.std.proofs.Common.{◌≡◌, ◌+◌, ◌≤◌, ◌<◌, Ok, get_or, length, sym, ap, ◌∙◌, arith}
+use Rattle.std.proofs.Common.{◌≡◌, ◌+◌, ◌≤◌, ◌<◌, Ok, get_or, length, inl, inr, sym, ap, ◌∙◌, arith}
 use Rattle.std.proofs.lemmas.Bool.Decides.{when_true, when_false}
 use Rattle.sour_syntax.specs.declared.jump.Jump.{Jump}
 use Rattle.sour_syntax.specs.BodyView.{BodyView}
@@ -6,8 +6,8 @@ use Rattle.sour_syntax.specs.Scopes.{HasScopes, MentionsItsVariables}
 use Rattle.sour_syntax.specs.Spread.{following}
 use Rattle.sour_machine.specs.declared.moment.Moment.{Moment}
 use Rattle.sour_machine.specs.Frame.{frame_lines}
-use Rattle.sour_machine.specs.Instruction.{AlwaysTakesTurn, NeverTakesTurn}
-use Rattle.sour_machine.proofs.Advances.{Reads, Reads-lines, IsReady-line, GoesOn-act, StandsWanting-line, IsAtTurns-more, turns-always, turns-never, turns-grow, takes-crossing, before-always, before-never, Stands-act, has_memory-act, StandsCrossing-line}
+use Rattle.sour_machine.specs.Instruction.{AlwaysTakesTurn, StaysWithoutTurn}
+use Rattle.sour_machine.proofs.Advances.{Reads, Reads-lines, IsReady-line, GoesOn-act, StandsWanting-line, IsAtTurns-more, IsAtTurns-leaving, turns-always, turns-without, turns-grow, takes-crossing, before-always, before-without, Stands-act, has_memory-act, StandsCrossing-line}
 use Rattle.sour_machine.proofs.RunLaws.{OnErr-any}
 use Rattle.sour_machine.proofs.Jumps.{length-GoTo}
 use Rattle.sour_machine.proofs.Measure.{before}
@@ -29,7 +29,7 @@ bounds-jumps-moment c =
     let stands = c.loop-moment.invariant.stands.at_line c.in-Cut.is in
     let line = get_or lines old.frame.place c.index-lines-moment.result in
     let jump = get_or jumps old.frame.place none in
-    let reads : Reads program old body line jump = Reads-lines program c.args.moment.now old body lines jumps c.index-lines-moment.result none c.loop-moment.invariant.code c.requires.runs c.lines-lines.ensures.value
+    let reads : Reads program old body line jump = Reads-lines program c.args.moment.now old body lines jumps c.index-lines-moment.result none c.requires.checked c.loop-moment.invariant.code c.requires.runs c.lines-lines.ensures.value
     c.lines-lines.ensures.labels c.lines-lines.ensures.end c.jumps-jumps.ensures c.in-Cut.is stands in
     let all : length (frame_lines program old.frame) ≡ length body.lines = ap (λ (b : BodyView). length b.lines) reads.runs in
     let each : length jumps ≡ length body.lines = length-GoTo body.lines body.lines jumps c.jumps-jumps.ensures in
@@ -47,10 +47,10 @@ returns-then-moment-budget-clause-more_turns c = λ more.
     let stands = c.loop-moment.invariant.stands.at_line c.in-Cut.is in
     let line = get_or lines old.frame.place c.index-lines-moment.result in
     let jump = get_or jumps old.frame.place none in
-    let reads : Reads program old body line jump = Reads-lines program c.args.moment.now old body lines jumps c.index-lines-moment.result none c.loop-moment.invariant.code c.requires.runs c.lines-lines.ensures.value
+    let reads : Reads program old body line jump = Reads-lines program c.args.moment.now old body lines jumps c.index-lines-moment.result none c.requires.checked c.loop-moment.invariant.code c.requires.runs c.lines-lines.ensures.value
     c.lines-lines.ensures.labels c.lines-lines.ensures.end c.jumps-jumps.ensures c.in-Cut.is stands in (
       c.in-Cut.is,
-      IsAtTurns-more program input old c.args.budget line reads.at (when_true (AlwaysTakesTurn line.instr) (NeverTakesTurn line.instr) c.if-takes_turn.true c.takes_turn.ensures) c.if-moment-budget.true,
+      IsAtTurns-more program input old c.args.budget line reads.at (when_true (AlwaysTakesTurn line.instr) (StaysWithoutTurn line.instr) c.if-takes_turn.true c.takes_turn.ensures) c.if-moment-budget.true,
     )
 
 pub act-requires-clause-ready : goal.act-requires-clause-ready
@@ -64,7 +64,7 @@ act-requires-clause-ready c =
     let stands = c.loop-moment.invariant.stands.at_line c.in-Cut.is in
     let line = get_or lines old.frame.place c.index-lines-moment.result in
     let jump = get_or jumps old.frame.place none in
-    let reads : Reads program old body line jump = Reads-lines program c.args.moment.now old body lines jumps c.index-lines-moment.result none c.loop-moment.invariant.code c.requires.runs c.lines-lines.ensures.value
+    let reads : Reads program old body line jump = Reads-lines program c.args.moment.now old body lines jumps c.index-lines-moment.result none c.requires.checked c.loop-moment.invariant.code c.requires.runs c.lines-lines.ensures.value
     c.lines-lines.ensures.labels c.lines-lines.ensures.end c.jumps-jumps.ensures c.in-Cut.is stands in
     let Scopes : BodyView → Type 0 = HasScopes in
     let Mentions : BodyView → Type 0 = MentionsItsVariables in
@@ -81,7 +81,7 @@ act-requires-clause-goes c =
     let stands = c.loop-moment.invariant.stands.at_line c.in-Cut.is in
     let line = get_or lines old.frame.place c.index-lines-moment.result in
     let jump = get_or jumps old.frame.place none in
-    let reads : Reads program old body line jump = Reads-lines program c.args.moment.now old body lines jumps c.index-lines-moment.result none c.loop-moment.invariant.code c.requires.runs c.lines-lines.ensures.value
+    let reads : Reads program old body line jump = Reads-lines program c.args.moment.now old body lines jumps c.index-lines-moment.result none c.requires.checked c.loop-moment.invariant.code c.requires.runs c.lines-lines.ensures.value
     c.lines-lines.ensures.labels c.lines-lines.ensures.end c.jumps-jumps.ensures c.in-Cut.is stands in
     reads.goes
 
@@ -96,7 +96,7 @@ returns-in_err-act-clause-wants c =
     let stands = c.loop-moment.invariant.stands.at_line c.in-Cut.is in
     let line = get_or lines old.frame.place c.index-lines-moment.result in
     let jump = get_or jumps old.frame.place none in
-    let reads : Reads program old body line jump = Reads-lines program c.args.moment.now old body lines jumps c.index-lines-moment.result none c.loop-moment.invariant.code c.requires.runs c.lines-lines.ensures.value
+    let reads : Reads program old body line jump = Reads-lines program c.args.moment.now old body lines jumps c.index-lines-moment.result none c.requires.checked c.loop-moment.invariant.code c.requires.runs c.lines-lines.ensures.value
     c.lines-lines.ensures.labels c.lines-lines.ensures.end c.jumps-jumps.ensures c.in-Cut.is stands in
     let new = c.act.new.moment in
     let same : new ≡ old = c.in_err-act.ensures.err in
@@ -116,20 +116,21 @@ loop-moment-smaller c =
     let stands = c.loop-moment.invariant.stands.at_line c.in-Cut.is in
     let line = get_or lines old.frame.place c.index-lines-moment.result in
     let jump = get_or jumps old.frame.place none in
-    let reads : Reads program old body line jump = Reads-lines program c.args.moment.now old body lines jumps c.index-lines-moment.result none c.loop-moment.invariant.code c.requires.runs c.lines-lines.ensures.value
+    let reads : Reads program old body line jump = Reads-lines program c.args.moment.now old body lines jumps c.index-lines-moment.result none c.requires.checked c.loop-moment.invariant.code c.requires.runs c.lines-lines.ensures.value
     c.lines-lines.ensures.labels c.lines-lines.ensures.end c.jumps-jumps.ensures c.in-Cut.is stands in
     let new = c.act.new.moment in
     let acts = c.act.ensures.inside (c.in_ok-act.was ∙ ap Ok c.in-Inside.is) in
     let comes = c.act.ensures.comes (c.in_ok-act.was ∙ ap Ok c.in-Inside.is) in
+    let inside = c.act.ensures.leaves_none (c.in_ok-act.was ∙ ap Ok c.in-Inside.is) in
     let budget = c.args.budget in
     let same : length (frame_lines program old.frame) ≡ length lines =
     ap (λ (b : BodyView). length b.lines) reads.runs ∙ sym (ap length c.lines-lines.ensures.value) in
     let P : Type 0 = before budget (length lines) new < before budget (length lines) old in
     elim c.else-takes_turn.branch as (λ _. P) [
       | else-takes_turn-via-then-takes_turn+else-moment-budget w ↦
-          rw (← same) (before-always program input budget old new line reads.at acts (when_true (AlwaysTakesTurn line.instr) (NeverTakesTurn line.instr) w.if-takes_turn.true c.takes_turn.ensures) (omega arith))
+          rw (← same) (before-always program input budget old new line reads.at acts (when_true (AlwaysTakesTurn line.instr) (StaysWithoutTurn line.instr) w.if-takes_turn.true c.takes_turn.ensures) (omega arith))
       | else-takes_turn-via-else-takes_turn w ↦
-          rw (← same) (before-never program input budget old new line jump reads.at acts (when_false (AlwaysTakesTurn line.instr) (NeverTakesTurn line.instr) w.if-takes_turn.false c.takes_turn.ensures) comes)
+          rw (← same) (before-without program input budget old new line jump reads.at acts inside (when_false (AlwaysTakesTurn line.instr) (StaysWithoutTurn line.instr) w.if-takes_turn.false c.takes_turn.ensures) comes)
     ]
 
 pub loop-moment-preserved : goal.loop-moment-preserved
@@ -143,22 +144,23 @@ loop-moment-preserved c =
     let stands = c.loop-moment.invariant.stands.at_line c.in-Cut.is in
     let line = get_or lines old.frame.place c.index-lines-moment.result in
     let jump = get_or jumps old.frame.place none in
-    let reads : Reads program old body line jump = Reads-lines program c.args.moment.now old body lines jumps c.index-lines-moment.result none c.loop-moment.invariant.code c.requires.runs c.lines-lines.ensures.value
+    let reads : Reads program old body line jump = Reads-lines program c.args.moment.now old body lines jumps c.index-lines-moment.result none c.requires.checked c.loop-moment.invariant.code c.requires.runs c.lines-lines.ensures.value
     c.lines-lines.ensures.labels c.lines-lines.ensures.end c.jumps-jumps.ensures c.in-Cut.is stands in
     let new = c.act.new.moment in
     let acts = c.act.ensures.inside (c.in_ok-act.was ∙ ap Ok c.in-Inside.is) in
     let comes = c.act.ensures.comes (c.in_ok-act.was ∙ ap Ok c.in-Inside.is) in
-    let more : old.turns ≤ new.turns = turns-grow program input old new line.instr acts c.takes_turn.result c.takes_turn.ensures in
+    let inside = c.act.ensures.leaves_none (c.in_ok-act.was ∙ ap Ok c.in-Inside.is) in
+    let more : old.turns ≤ new.turns = turns-grow program input old new line.instr acts inside c.takes_turn.result c.takes_turn.ensures in
     record {
-      goes_on = GoesOn-act program input c.args.moment.now old new line reads.at acts c.act.ensures.stays c.loop-moment.invariant.goes_on;
+      goes_on = GoesOn-act program input c.args.moment.now old new line reads.at acts (c.act.ensures.enters_none (c.in_ok-act.was ∙ ap Ok c.in-Inside.is)) c.act.ensures.stays c.loop-moment.invariant.goes_on;
       code = c.act.ensures.stays.code ∙ c.loop-moment.invariant.code;
       within =
           let P : Type 0 = new.turns ≤ c.args.budget in
           elim c.else-takes_turn.branch as (λ _. P) [
             | else-takes_turn-via-then-takes_turn+else-moment-budget w ↦
-                omega (arith, turns-always program input old new line.instr acts (when_true (AlwaysTakesTurn line.instr) (NeverTakesTurn line.instr) w.if-takes_turn.true c.takes_turn.ensures))
+                omega (arith, turns-always program input old new line.instr acts (when_true (AlwaysTakesTurn line.instr) (StaysWithoutTurn line.instr) w.if-takes_turn.true c.takes_turn.ensures))
             | else-takes_turn-via-else-takes_turn w ↦
-                omega (arith, turns-never program input old new line.instr acts (when_false (AlwaysTakesTurn line.instr) (NeverTakesTurn line.instr) w.if-takes_turn.false c.takes_turn.ensures))
+                omega (arith, turns-without program input old new line.instr acts inside (when_false (AlwaysTakesTurn line.instr) (StaysWithoutTurn line.instr) w.if-takes_turn.false c.takes_turn.ensures))
           ];
       turns = omega (arith, more);
       has_memory = has_memory-act line.instr (following line.instr jump (old.frame.place + 1)) old.frame.env new new.end comes;
@@ -176,7 +178,7 @@ returns-in-Crossing-clause-crossing c = λ crossing.
     let stands = c.loop-moment.invariant.stands.at_line c.in-Cut.is in
     let line = get_or lines old.frame.place c.index-lines-moment.result in
     let jump = get_or jumps old.frame.place none in
-    let reads : Reads program old body line jump = Reads-lines program c.args.moment.now old body lines jumps c.index-lines-moment.result none c.loop-moment.invariant.code c.requires.runs c.lines-lines.ensures.value
+    let reads : Reads program old body line jump = Reads-lines program c.args.moment.now old body lines jumps c.index-lines-moment.result none c.requires.checked c.loop-moment.invariant.code c.requires.runs c.lines-lines.ensures.value
     c.lines-lines.ensures.labels c.lines-lines.ensures.end c.jumps-jumps.ensures c.in-Cut.is stands in
     let new = c.act.new.moment in
     let crosses = c.act.ensures.crossing (c.in_ok-act.was ∙ ap Ok c.in-Crossing.is) in
@@ -186,4 +188,39 @@ returns-in-Crossing-clause-crossing c = λ crossing.
       | else-takes_turn-via-then-takes_turn+else-moment-budget w ↦ omega arith
       | else-takes_turn-via-else-takes_turn w ↦ cc
     ] in
-    StandsCrossing-line program c.args.budget old new line reads.at crosses.1 crosses.0 left
+    StandsCrossing-line program c.args.budget old new line reads.at crosses.1 (inl crosses.0) left
+
+pub returns-in-Leaving-clause-more_turns : goal.returns-in-Leaving-clause-more_turns
+returns-in-Leaving-clause-more_turns c = λ more.
+    let program = c.args.program.now in
+    let input = c.args.input.now in
+    let body = c.args.body.now in
+    let lines = c.lines-lines.result.now in
+    let jumps = c.jumps-jumps.result.now in
+    let old = c.loop-moment.moment in
+    let stands = c.loop-moment.invariant.stands.at_line c.in-Cut.is in
+    let line = get_or lines old.frame.place c.index-lines-moment.result in
+    let jump = get_or jumps old.frame.place none in
+    let reads : Reads program old body line jump = Reads-lines program c.args.moment.now old body lines jumps c.index-lines-moment.result none c.requires.checked c.loop-moment.invariant.code c.requires.runs c.lines-lines.ensures.value
+    c.lines-lines.ensures.labels c.lines-lines.ensures.end c.jumps-jumps.ensures c.in-Cut.is stands in
+    let new = c.act.new.moment in
+    let leaves = c.act.ensures.leaving (c.in_ok-act.was ∙ ap Ok c.in-Leaving.is) in
+    IsAtTurns-leaving program input old new c.args.budget line reads.at leaves.0 leaves.1 (omega arith)
+
+pub returns-in-Leaving-2-clause-crossing : goal.returns-in-Leaving-2-clause-crossing
+returns-in-Leaving-2-clause-crossing c = λ crossing.
+    let program = c.args.program.now in
+    let input = c.args.input.now in
+    let body = c.args.body.now in
+    let lines = c.lines-lines.result.now in
+    let jumps = c.jumps-jumps.result.now in
+    let old = c.loop-moment.moment in
+    let stands = c.loop-moment.invariant.stands.at_line c.in-Cut.is in
+    let line = get_or lines old.frame.place c.index-lines-moment.result in
+    let jump = get_or jumps old.frame.place none in
+    let reads : Reads program old body line jump = Reads-lines program c.args.moment.now old body lines jumps c.index-lines-moment.result none c.requires.checked c.loop-moment.invariant.code c.requires.runs c.lines-lines.ensures.value
+    c.lines-lines.ensures.labels c.lines-lines.ensures.end c.jumps-jumps.ensures c.in-Cut.is stands in
+    let new = c.act.new.moment in
+    let leaves = c.act.ensures.leaving (c.in_ok-act.was ∙ ap Ok c.in-Leaving-2.is) in
+    let same : new.turns ≡ old.turns = ap (λ (moment : Moment). moment.turns) leaves.1 in
+    StandsCrossing-line program c.args.budget old new line reads.at leaves.1 (inr leaves.0) (omega (arith, same))

@@ -1,3 +1,4 @@
+use Rattle.std.specs.Prelude.{codes}
 use Rattle.sour_tokens.specs.Token.{spelling}
 use Rattle.sour_reader.proofs.Commas.{parts_at}
 use Rattle.sour_reader.proofs.bracket.comma_place.Goals as goal
@@ -6,5 +7,5 @@ pub returns-then-is_symbol : goal.returns-then-is_symbol
 returns-then-is_symbol c = record {
   within = c.loop-place.invariant.within;
   before = c.loop-place.invariant.before;
-  comma = λ within. parts_at spelling c.args.tokens.now c.loop-place.place _ within (c.is_symbol.ensures.0 c.if-is_symbol.true);
+  at = λ within. parts_at spelling (codes ",") c.args.tokens.now c.loop-place.place _ within (c.is_symbol.ensures.0 c.if-is_symbol.true);
 }

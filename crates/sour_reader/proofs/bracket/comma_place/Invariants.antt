@@ -1,12 +1,13 @@
 use Rattle.std.proofs.Common.{◌≤◌, length, map, take, ◌-◌}
+use Rattle.std.specs.Prelude.{codes}
 use Rattle.sour_tokens.specs.Token.{spelling}
-use Rattle.sour_reader.specs.Parts.{HasNoComma}
+use Rattle.sour_reader.specs.Parts.{Lacks}
 use Rattle.sour_reader.proofs.bracket.comma_place.Given as goal
 
 abbrev pub invariant-loop-place : goal.invariant-loop-place
 invariant-loop-place l = record {
   within : l.place ≤ length l.tokens;
-  before : HasNoComma (map spelling (take l.place l.tokens));
+  before : Lacks (codes ",") (map spelling (take l.place l.tokens));
 }
 
 abbrev pub decreases-loop-place : goal.decreases-loop-place

@@ -1,6 +1,6 @@
 use Rattle.std.proofs.Common.{◌↔◌}
 use Rattle.sour_tokens.specs.Token.{IsDigits}
-use Rattle.sour_reader.specs.Instruction.{IsDecimal}
+use Rattle.sour_reader.specs.Label.{IsDecimal}
 use Rattle.sour_reader.proofs.Labels.{decimal_digits}
 use Rattle.sour_reader.proofs.label.is_decimal.Goals as goal
 

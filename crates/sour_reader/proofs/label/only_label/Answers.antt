@@ -1,5 +1,5 @@
 use Rattle.std.proofs.Common.{arith}
-use Rattle.sour_reader.specs.Instruction.{IsLabel}
+use Rattle.sour_reader.specs.Label.{IsLabel}
 use Rattle.sour_reader.proofs.Labels.{only_one}
 use Rattle.sour_reader.proofs.label.only_label.Goals as goal
 

@@ -1,8 +1,9 @@
-use Rattle.std.proofs.Common.{Err, ap, arith}
+use Rattle.std.proofs.Common.{Err, refl, ap, arith}
 use Rattle.sour_reader.specs.Front.{IsLine, BeginsVersionOrEnd}
 use Rattle.sour_reader.proofs.Faults.{unplaced_from_unplaced}
 use Rattle.sour_reader.proofs.Readings.{line_reads_none, no_line_reads}
 use Rattle.sour_reader.proofs.BodyLaws.{only_one, not_one, test_true, test_false, body_none, body_more, body_many_names, body_many_lines, body_no_line, whole_body}
+use Rattle.sour_reader.proofs.ExitMentionLaws.{these_few, these_many}
 use Rattle.sour_reader.proofs.version.read_lines.Goals as goal
 
 pub loop-alloc-init : goal.loop-alloc-init
@@ -32,7 +33,7 @@ returns-then-len-gt-MAX_VARIABLES-clause-unplaced c is =
     body_many_names _ _ _ _ _ _ _ c.in-Some.line c.loop-alloc.invariant
     (test_false BeginsVersionOrEnd _ _ _ c.loop-alloc-test.true c.begins_version_or_end.ensures c.tokens.ensures.spelled)
     (only_one IsLine _ _ c.in_ok-line.field-0 c.in-Some.line c.tokens-in-loop-alloc.ensures.spelled c.in-Some.is c.in_ok-line.ensures)
-    c.in_ok-advance.ensures.found c.in_ok-add_instr.ensures (omega arith)
+    c.in_ok-advance.ensures.found refl (these_many _ _ c.in_ok-add_instr.ensures (omega arith))
 
 pub loop-alloc-preserved : goal.loop-alloc-preserved
 loop-alloc-preserved c =
@@ -40,7 +41,7 @@ loop-alloc-preserved c =
     (body_more _ _ _ _ _ _ _ c.in-Some.line c.loop-alloc.invariant (omega arith)
     (test_false BeginsVersionOrEnd _ _ _ c.loop-alloc-test.true c.begins_version_or_end.ensures c.tokens.ensures.spelled)
     (only_one IsLine _ _ c.in_ok-line.field-0 c.in-Some.line c.tokens-in-loop-alloc.ensures.spelled c.in-Some.is c.in_ok-line.ensures)
-    c.in_ok-advance.ensures.found c.in_ok-add_instr.ensures (omega arith))
+    c.in_ok-advance.ensures.found (these_few _ _ c.in_ok-add_instr.ensures (omega arith)) (omega arith))
 
 pub returns-clause-found : goal.returns-clause-found
 returns-clause-found c =

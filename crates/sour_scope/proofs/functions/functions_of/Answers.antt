@@ -8,7 +8,7 @@ use Rattle.sour_scope.proofs.functions.functions_of.Goals as goal
 pub returns-in_default-clause-none : goal.returns-in_default-clause-none
 returns-in_default-clause-none c = λ all.
     let accepted =
-    AreAccepted-at c.args.names.now 0 c.loop-number.number c.loop-number.number c.args.raw.now c.index-raw-number.result (omega arith) all
+    AreAccepted-at c.args.outline.now 0 c.loop-number.number c.loop-number.number c.args.raw.now c.index-raw-number.result (omega arith) all
     (slice_get_read c.args.raw.now _ c.loop-number.number c.index-raw-number.result refl c.loop-number-test.true c.index-raw-number.is) in
     (rw c.in_default.is at c.in_ok-function.ensures.none) accepted
 
@@ -16,5 +16,5 @@ pub loop-number-preserved : goal.loop-number-preserved
 loop-number-preserved c =
     let count : length (take c.loop-number.number c.args.raw.now) ≡ c.loop-number.number = length-take-le c.loop-number.number c.args.raw.now (omega arith) in
     rw (take_next c.args.raw.now c.loop-number.number c.index-raw-number.result c.loop-number-test.true c.index-raw-number.is, c.in_ok-push.ensures.ok)
-    (functions_more c.args.names.now _ _ c.loop-number.number c.index-raw-number.result c.in-Some.function c.loop-number.invariant (sym count)
+    (functions_more c.args.outline.now _ _ c.loop-number.number c.index-raw-number.result c.in-Some.function c.loop-number.invariant (sym count)
     (rw c.in-Some.is at c.in_ok-function.ensures.some) (rw c.in-Some.is at c.in_ok-function.ensures.accepted))

@@ -1,9 +1,6 @@
-use Rattle.std.proofs.Common.{◌≤◌, ◌+◌, ◌*◌, length, take}
-use Rattle.sour_scope.proofs.LineLaws.{LinesSoFar}
+use Rattle.std.proofs.Common.{◌≡◌, take}
+use Rattle.sour_scope.specs.Numbered.{lines_of}
 use Rattle.sour_scope.proofs.lines.lines_of.Given as goal
 
 abbrev pub invariant-loop-place : goal.invariant-loop-place
-invariant-loop-place l = record {
-  made : LinesSoFar l.functions l.fn.names (take l.place l.raw) l.names l.lines;
-  few : length l.names ≤ 255 + 2049 * l.place;
-}
+invariant-loop-place l = l.lines ≡ lines_of l.outline l.names 0 (take l.place l.raw)

@@ -18,7 +18,8 @@ returns-in-Ok-check-clause-job g c =
     let accepts : Accepts c.as_slice.result.now job.program.value job.inputs = record {
       raw = c.in-Ok-read_job.raw;
       reads = reads;
-      checked = (c.in-Ok-check.ensures.found job.program.value job.inputs).1 (refl, refl);
+      plan = job.plan;
+      checked = (c.in-Ok-check.ensures.found job.program.value job.plan job.inputs).1 (refl, refl, refl);
     } in
     IfSome-GivesAll (λ bytes. (length bytes ≤ text_limit) × Accepts bytes job.program.value job.inputs) _ _ _ _ c.in-Ok.ensures.whole c.as_slice.ensures.value
     (short, accepts)

@@ -7,7 +7,7 @@ use Rattle.sour_syntax.specs.Jumps.{NamesItsLabels}
 use Rattle.sour_syntax.specs.Labels.{LabelsDiffer}
 use Rattle.sour_syntax.specs.Program.{IsProgram}
 use Rattle.sour_syntax.specs.Terminator.{EndsInTerminator}
-use Rattle.sour_syntax.proofs.OneFunction.{IsProgram-one}
+use Rattle.sour_machine.proofs.MainLaws.{IsProgram-main}
 use Rattle.sour_machine.proofs.tests.programs.program_of_body.Goals as goal
 
 pub of_functions-program-requires : goal.of_functions-program-requires
@@ -30,4 +30,5 @@ of_functions-program-requires c =
     let versions : c.from_vec.result ≡ version ∷ [] = c.from_vec.ensures ∙ c.in_ok-vec.ensures.items in
     let functions : c.from_vec-functions.result ≡ function ∷ [] = c.from_vec-functions.ensures ∙ c.in_ok-vec-2.ensures.items in
     subst Program (sym functions)
-    (IsProgram-one function version (c.from_bytes-2.ensures ∙ c.in_ok-from_slice.ensures.items) versions body c.requires.function c.requires.parameters c.requires.literals c.requires.lines c.requires.variables)
+    (IsProgram-main function version versions c.requires.parameters c.requires.variables c.requires.start
+    (c.from_bytes-2.ensures ∙ c.in_ok-from_slice.ensures.items) body c.requires.function c.requires.each c.requires.lines)

@@ -1,0 +1,9 @@
+pub mod LaterRuns
+pub mod FramesBelow
+pub mod RunsAlone
+pub mod AgreementAbove
+pub mod LawfulCalls
+pub mod TextBodies
+pub mod TextAlone
+pub mod TextShape
+pub mod ShownRuns

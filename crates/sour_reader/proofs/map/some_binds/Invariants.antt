@@ -1,0 +1,20 @@
+use Rattle.std.proofs.Common.{◌≤◌, length, map}
+use Rattle.std.specs.List.{AllByRecursion}
+use Rattle.std.specs.Prelude.{codes}
+use Rattle.sour_tokens.specs.Token.{spelling, IsOfItsKind}
+use Rattle.sour_reader.specs.declared.raw.RawBind.{RawBind}
+use Rattle.sour_reader.specs.Exit.{SpellsBind}
+use Rattle.sour_reader.specs.Parts.{IsAtFirst}
+use Rattle.sour_reader.proofs.Commas.{SomeSoFar}
+use Rattle.sour_reader.proofs.map.some_binds.Given as goal
+
+abbrev pub invariant-loop-count : goal.invariant-loop-count
+invariant-loop-count l = record {
+  shorter : length l.rest ≤ length l.fn.tokens;
+  kinds : AllByRecursion IsOfItsKind l.rest;
+  read : SomeSoFar RawBind SpellsBind (map spelling l.fn.tokens) l.binds (map spelling l.rest);
+  at : IsAtFirst (codes ",") l.rest l.count;
+}
+
+abbrev pub decreases-loop-count : goal.decreases-loop-count
+decreases-loop-count l = length l.rest

@@ -1,0 +1,14 @@
+use Rattle.std.proofs.Common.{◌≤◌, length, map, take, ◌-◌}
+use Rattle.sour_tokens.specs.Symbol.{symbol_spelling}
+use Rattle.sour_tokens.specs.Token.{spelling}
+use Rattle.sour_reader.specs.Separators.{HasNone}
+use Rattle.sour_reader.proofs.separator.symbol_place.Given as goal
+
+abbrev pub invariant-loop-place : goal.invariant-loop-place
+invariant-loop-place l = record {
+  within : l.place ≤ length l.tokens;
+  before : HasNone (symbol_spelling l.symbol) (map spelling (take l.place l.tokens));
+}
+
+abbrev pub decreases-loop-place : goal.decreases-loop-place
+decreases-loop-place l = length l.tokens - l.place

@@ -1,0 +1,158 @@
+-- The names of a text begin with a letter or `_`, and have no `/`.
+use Rattle.std.proofs.Common.{◌≡◌, ◌≢◌, ◌^◌, ◌<◌, ℕ, Bool, true, false, cond, List, [], ◌∷◌, ◌++◌, Option, None, Some, refl, sym, ap, ◌∙◌, subst, arith}
+use Rattle.std.specs.Prelude.{MatchOption}
+use Rattle.std.specs.List.{AllByRecursion, AllPass, list_any}
+use Rattle.std.specs.Char.{digit_value}
+use Rattle.std.specs.Str.{bytes_eq}
+use Rattle.std.specs.Str.Parse.{AllDigits}
+use Rattle.std.proofs.lemmas.Fmt.{decimal_is_IsNumeral}
+use Rattle.std.proofs.lemmas.List.Elements.{All-head, All-tail}
+use Rattle.sour_tokens.specs.Byte.{begins_word, continues_word}
+use Rattle.sour_syntax.specs.Labels.{automatic_label}
+use Rattle.sour_syntax.specs.Program.{IsPlainName}
+use Rattle.sour_syntax.proofs.AutomaticLabels.{plain_automatic}
+use Rattle.sour_syntax.proofs.EachExpression.{all_joined}
+use Rattle.sour_reader.specs.declared.raw.RawSimple.{RawSimple}
+use Rattle.sour_reader.specs.declared.raw.RawSimple.TheVariants as simple
+use Rattle.sour_reader.specs.declared.raw.RawExpr.{RawExpr}
+use Rattle.sour_reader.specs.declared.raw.RawExpr.TheVariants as expr
+use Rattle.sour_reader.specs.declared.raw.RawBind.{RawBind}
+use Rattle.sour_reader.specs.declared.raw.RawExtra.{RawExtra}
+use Rattle.sour_reader.specs.declared.raw.RawExit.{RawExit}
+use Rattle.sour_reader.specs.declared.raw.RawInstr.{RawInstr}
+use Rattle.sour_reader.specs.declared.raw.RawInstr.TheVariants.{Var, Drop, Assign, ArrayLength, ArrayList, Store, Print, Read, Branch, Goto, Call, Return, Stop, Assume}
+use Rattle.sour_reader.specs.declared.raw.RawLine.{RawLine}
+use Rattle.sour_reader.specs.Exit.{SpellsExit, SpellsExtras, SpellsBinds}
+use Rattle.sour_reader.specs.Expression.{SpellsSimple, SpellsExpr, SpellsEach}
+use Rattle.sour_reader.specs.Instruction.{SpellsInstr, SpellsLabelled}
+use Rattle.sour_reader.specs.Job.{SpellsLines}
+use Rattle.sour_reader.specs.Mentions.{simple_names, expr_names, each_names, all_names, bind_names, map_names, extra_names, exit_names, instr_names, with_name, with_names, with_lines, variables_of}
+use Rattle.sour_reader.specs.Name.{IsName}
+
+-- a byte with which a word goes on isn't `/`
+not_slash : (byte : ℕ) → continues_word byte ≡ true → byte ≢ 47
+not_slash byte goes same = let at : continues_word 47 ≡ true = ap continues_word (sym same) ∙ goes in cc
+
+-- what goes on in a word has no `/`
+none_slash : (bytes : List ℕ) → AllPass continues_word bytes → AllByRecursion (λ byte. byte ≢ 47) bytes
+none_slash [] all = tt
+none_slash (byte ∷ bytes) all =
+    (not_slash byte (All-head (λ b. continues_word b ≡ true) byte bytes all), none_slash bytes (All-tail (λ b. continues_word b ≡ true) byte bytes all))
+
+-- neither is what a word begins with
+begins_not_slash : (byte : ℕ) → begins_word byte ≡ true → byte ≢ 47
+begins_not_slash byte goes same = let at : begins_word 47 ≡ true = ap begins_word (sym same) ∙ goes in cc
+
+-- a name is plain
+pub IsPlainName-name : (name : List ℕ) → IsName name → IsPlainName name
+IsPlainName-name [] is = absurd is.word
+IsPlainName-name (byte ∷ bytes) is = record {
+  begins = is.word.0;
+  whole = (
+    begins_not_slash byte is.word.0,
+    none_slash bytes is.word.1,
+  );
+}
+
+-- names are plain
+pub plain_names : (names : List (List ℕ)) → AllByRecursion IsName names → AllByRecursion IsPlainName names
+plain_names [] all = tt
+plain_names (name ∷ names) all = (IsPlainName-name name all.0, plain_names names all.1)
+
+-- what holds of the names in an operand, where it is spelled
+names_of_simple : (a : RawSimple) (tokens : List (List ℕ)) → SpellsSimple a tokens → AllByRecursion IsName (simple_names a)
+names_of_simple (simple.Lit literal) tokens spells = tt
+names_of_simple (simple.Name name) tokens spells = (spells.1, tt)
+
+-- the names in an expression that is spelled are names
+names_of_expr : (e : RawExpr) (tokens : List (List ℕ)) → SpellsExpr e tokens → AllByRecursion IsName (expr_names e)
+names_of_expr (expr.Plain a) tokens spells = names_of_simple a tokens spells
+names_of_expr (expr.Cell x index) tokens (place, whole, name, spells) = (name, names_of_simple index place spells)
+names_of_expr (expr.Length a) tokens (operand, whole, spells) = names_of_simple a operand spells
+names_of_expr (expr.Not a) tokens (operand, whole, spells) = names_of_simple a operand spells
+names_of_expr (expr.Binary op a b) tokens (left, right, whole, first, second) =
+    all_joined IsName (simple_names a) (simple_names b) (names_of_simple a left first) (names_of_simple b right second)
+
+-- the names in expressions
+names_of_each : (es : List RawExpr) (tokens : List (List ℕ)) → SpellsEach es tokens → AllByRecursion IsName (each_names es)
+names_of_each [] tokens spells = tt
+names_of_each (e ∷ []) tokens spells = all_joined IsName (expr_names e) [] (names_of_expr e tokens spells) tt
+names_of_each (e ∷ other ∷ es) tokens (first, rest, whole, one, others) =
+    all_joined IsName (expr_names e) (each_names (other ∷ es)) (names_of_expr e first one) (names_of_each (other ∷ es) rest others)
+
+-- the names in the values of a map
+names_of_binds : (binds : List RawBind) (tokens : List (List ℕ)) → SpellsBinds binds tokens → AllByRecursion IsName (map_names binds)
+names_of_binds [] tokens spells = tt
+names_of_binds (bind ∷ []) tokens (value, whole, name, spells) = all_joined IsName (bind_names bind) [] (names_of_expr bind.value value spells) tt
+names_of_binds (bind ∷ other ∷ binds) tokens (first, rest, whole, (value, own, name, spells), others) =
+    all_joined IsName (bind_names bind) (map_names (other ∷ binds)) (names_of_expr bind.value value spells) (names_of_binds (other ∷ binds) rest others)
+
+-- the names in the maps of further frames
+names_of_extras : (extras : List RawExtra) (tokens : List (List ℕ)) → SpellsExtras extras tokens → AllByRecursion IsName (all_names extra_names extras)
+names_of_extras [] tokens spells = tt
+names_of_extras (extra ∷ extras) tokens (first, rest, whole, (place, map, own, target, result, (inner, bracket, spells)), others) =
+    all_joined IsName (extra_names extra) (all_names extra_names extras) (names_of_binds extra.map inner spells) (names_of_extras extras rest others)
+
+-- the names in the maps of an exit
+names_of_exit : (exit : RawExit) (tokens : List (List ℕ)) → SpellsExit exit tokens → AllByRecursion IsName (exit_names exit)
+names_of_exit exit tokens (place, map, extras, whole, target, (inner, bracket, spells), others) =
+    all_joined IsName (map_names exit.map) (all_names extra_names exit.extras) (names_of_binds exit.map inner spells) (names_of_extras exit.extras extras others)
+
+-- the names in an instruction that is spelled are names
+pub names_of_instr : (instr : RawInstr) (tokens : List (List ℕ)) → SpellsInstr instr tokens → AllByRecursion IsName (instr_names instr)
+names_of_instr (Var x e) tokens (value, whole, name, spells) = (name, names_of_expr e value spells)
+names_of_instr (Drop x) tokens spells = (spells.1, tt)
+names_of_instr (Assign x e) tokens (value, whole, name, spells) = (name, names_of_expr e value spells)
+names_of_instr (ArrayLength x e) tokens (count, whole, name, spells) = (name, names_of_expr e count spells)
+names_of_instr (ArrayList x es) tokens (cells, whole, name, spells) = (name, names_of_each es cells spells)
+names_of_instr (Store x index e) tokens (place, value, whole, name, first, second) =
+    (name, all_joined IsName (simple_names index) (expr_names e) (names_of_simple index place first) (names_of_expr e value second))
+names_of_instr (Print e) tokens (value, whole, spells) = names_of_expr e value spells
+names_of_instr (Read x) tokens spells = (spells.1, tt)
+names_of_instr (Branch e a b) tokens (value, whole, spells, first, second) = names_of_expr e value spells
+names_of_instr (Goto a) tokens spells = tt
+names_of_instr (Call x callee es) tokens (function, arguments, whole, name, first, second) =
+    (name, all_joined IsName (simple_names callee) (each_names es) (names_of_simple callee function first) (names_of_each es arguments second))
+names_of_instr (Return e) tokens (value, whole, spells) = names_of_expr e value spells
+names_of_instr Stop tokens spells = tt
+names_of_instr (Assume es exit) tokens (each, back, whole, first, second) =
+    all_joined IsName (each_names es) (exit_names exit) (names_of_each es each first) (names_of_exit exit back second)
+
+-- the same behind a label, and the label is a name
+names_of_labelled : (label : Option (List ℕ)) (instr : RawInstr) (tokens : List (List ℕ)) → SpellsLabelled label instr tokens → AllByRecursion IsName (instr_names instr)
+names_of_labelled None instr tokens spells = names_of_instr instr tokens spells
+names_of_labelled (Some label) instr tokens (rest, whole, name, spells) = names_of_instr instr rest spells
+
+-- one name more or not
+with_name-all : (P : List ℕ → Type 0) (names : List (List ℕ)) (name : List ℕ) (test : Bool) → AllByRecursion P names → P name
+    → AllByRecursion P (cond test names (names ++ name ∷ []))
+with_name-all P names name true all holds = all
+with_name-all P names name false all holds = all_joined P names (name ∷ []) all (holds, tt)
+
+-- what holds of the names and of those that are put behind them holds of all
+with_names-all : (P : List ℕ → Type 0) (names others : List (List ℕ)) → AllByRecursion P names → AllByRecursion P others → AllByRecursion P (with_names names others)
+with_names-all P names [] all more = all
+with_names-all P names (name ∷ others) all more =
+    with_names-all P (with_name names name) others (with_name-all P names name (list_any (bytes_eq name) names) all more.0) more.1
+
+-- the names of the variables of lines that are spelled are names
+with_lines-names : (names : List (List ℕ)) (lines : List RawLine) (text : List (List (List ℕ))) → SpellsLines lines text → AllByRecursion IsName names
+    → AllByRecursion IsName (with_lines names lines)
+with_lines-names names [] text spells all = all
+with_lines-names names (line ∷ lines) [] spells all = absurd spells
+with_lines-names names (line ∷ lines) (tokens ∷ text) spells all =
+    with_lines-names (with_names names (instr_names line.instr)) lines text spells.1
+    (with_names-all IsName names (instr_names line.instr) all (names_of_labelled line.label line.instr tokens spells.0))
+
+-- the variables of a version that is spelled have plain names
+pub plain_variables : (parameters : List (List ℕ)) (lines : List RawLine) (text : List (List (List ℕ))) → AllByRecursion IsName parameters
+    → SpellsLines lines text → AllByRecursion IsPlainName (variables_of parameters lines)
+plain_variables parameters lines text names spells =
+    plain_names (variables_of parameters lines)
+    (with_lines-names (with_names [] parameters) lines text spells (with_names-all IsName [] parameters tt names))
+
+-- a label that is written is plain, and so is an automatic one
+pub plain_label : (label : Option (List ℕ)) (instr : RawInstr) (tokens : List (List ℕ)) (place : ℕ) → place < 2 ^ 64 → SpellsLabelled label instr tokens
+    → MatchOption label (IsPlainName (automatic_label place)) IsPlainName
+plain_label None instr tokens place small spells = plain_automatic place small
+plain_label (Some label) instr tokens place small (rest, whole, name, spells) = IsPlainName-name label name

@@ -1,0 +1,97 @@
+-- The variables of a version: no two have the same name, and the parameters come first.
+use Rattle.std.proofs.Common.{◌≡◌, ◌≢◌, ℕ, Bool, true, false, cond, ◌||◌, List, [], ◌∷◌, ◌++◌, append_assoc, append-nil, refl, sym, ap, ◌∙◌, subst}
+use Rattle.std.specs.List.{AllByRecursion, list_any}
+use Rattle.std.specs.Str.{bytes_eq}
+use Rattle.std.proofs.lemmas.Slice.Eq.{bytes_eq-Decides}
+use Rattle.sour_syntax.specs.Program.{NamesDiffer}
+use Rattle.sour_syntax.proofs.EachExpression.{all_second}
+use Rattle.sour_reader.specs.declared.raw.RawLine.{RawLine}
+use Rattle.sour_reader.specs.Mentions.{with_name, with_names, with_lines, instr_names, variables_of}
+use Rattle.sour_scope.proofs.NameLaws.{NamesDiffer-push, none_same}
+
+-- a test that fails of two names tells them apart
+apart : (a b : List ℕ) → bytes_eq a b ≡ false → b ≢ a
+apart a b failed same = let found : bytes_eq a b ≡ true = (bytes_eq-Decides a b).1 (sym same) in cc
+
+-- the first isn't the name, nor is one behind it
+absent_first : (name first : List ℕ) (names : List (List ℕ)) (test : Bool) → bytes_eq name first ≡ test
+    → (list_any (bytes_eq name) names ≡ false → AllByRecursion (λ other. other ≢ name) names)
+    → test || list_any (bytes_eq name) names ≡ false → AllByRecursion (λ other. other ≢ name) (first ∷ names)
+absent_first name first names true is rest none = absurd (cc)
+absent_first name first names false is rest none = (apart name first is, rest none)
+
+-- where no name passes the test, the name isn't among them
+absent : (name : List ℕ) (names : List (List ℕ)) → list_any (bytes_eq name) names ≡ false → AllByRecursion (λ other. other ≢ name) names
+absent name [] none = tt
+absent name (first ∷ names) none = absent_first name first names (bytes_eq name first) refl (absent name names) none
+
+-- a name that is put behind others or not
+chosen-differ : (names : List (List ℕ)) (name : List ℕ) (test : Bool) → list_any (bytes_eq name) names ≡ test → NamesDiffer names
+    → NamesDiffer (cond test names (names ++ name ∷ []))
+chosen-differ names name true is differ = differ
+chosen-differ names name false is differ = NamesDiffer-push names name differ (absent name names is)
+
+-- names differ when others are put behind them
+with_names-differ : (names others : List (List ℕ)) → NamesDiffer names → NamesDiffer (with_names names others)
+with_names-differ names [] differ = differ
+with_names-differ names (name ∷ others) differ =
+    with_names-differ (with_name names name) others (chosen-differ names name (list_any (bytes_eq name) names) refl differ)
+
+with_lines-differ : (names : List (List ℕ)) (lines : List RawLine) → NamesDiffer names → NamesDiffer (with_lines names lines)
+with_lines-differ names [] differ = differ
+with_lines-differ names (line ∷ lines) differ =
+    with_lines-differ (with_names names (instr_names line.instr)) lines (with_names-differ names (instr_names line.instr) differ)
+
+-- no two variables of a version have the same name
+pub variables_differ : (parameters : List (List ℕ)) (lines : List RawLine) → NamesDiffer (variables_of parameters lines)
+variables_differ parameters lines = with_lines-differ (with_names [] parameters) lines (with_names-differ [] parameters tt)
+
+-- a name behind others that all differ isn't among them
+behind_absent : (names : List (List ℕ)) (name : List ℕ) (others : List (List ℕ)) → NamesDiffer (names ++ name ∷ others) → AllByRecursion (λ other. other ≢ name) names
+behind_absent [] name others differ = tt
+behind_absent (first ∷ names) name others differ =
+    ((λ same. (all_second (λ other. other ≢ first) names (name ∷ others) differ.0).0 (sym same)), behind_absent names name others differ.1)
+
+-- names that all differ are put behind one another
+with_names-all_new : (names others : List (List ℕ)) → NamesDiffer (names ++ others) → with_names names others ≡ names ++ others
+with_names-all_new names [] differ = sym (append-nil names)
+with_names-all_new names (name ∷ others) differ =
+    let new : with_name names name ≡ names ++ name ∷ [] =
+    ap (λ test. cond test names (names ++ name ∷ [])) (none_same names name (behind_absent names name others differ)) in
+    let together : (names ++ name ∷ []) ++ others ≡ names ++ name ∷ others = append_assoc names (name ∷ []) others in
+    ap (λ zs. with_names zs others) new ∙ with_names-all_new (names ++ name ∷ []) others (subst NamesDiffer (sym together) differ) ∙ together
+
+-- what stands in front, whatever is put behind
+record Begins (front whole : List (List ℕ)) : Type 0 where
+  pub others : List (List ℕ)
+  pub is : whole ≡ front ++ others
+
+chosen-begins : (names : List (List ℕ)) (name : List ℕ) (test : Bool) → Begins names (cond test names (names ++ name ∷ []))
+chosen-begins names name true = record { others = []; is = sym (append-nil names) }
+chosen-begins names name false = record { others = name ∷ []; is = refl }
+
+-- what begins what begins a list begins the list
+further : (front middle whole : List (List ℕ)) → Begins front middle → Begins middle whole → Begins front whole
+further front middle whole first second = record {
+  others = first.others ++ second.others;
+  is = second.is ∙ ap (λ zs. zs ++ second.others) first.is ∙ append_assoc front first.others second.others;
+}
+
+with_names-begins : (names others : List (List ℕ)) → Begins names (with_names names others)
+with_names-begins names [] = record { others = []; is = sym (append-nil names) }
+with_names-begins names (name ∷ others) =
+    further names (with_name names name) (with_names (with_name names name) others)
+    (chosen-begins names name (list_any (bytes_eq name) names)) (with_names-begins (with_name names name) others)
+
+with_lines-begins : (names : List (List ℕ)) (lines : List RawLine) → Begins names (with_lines names lines)
+with_lines-begins names [] = record { others = []; is = sym (append-nil names) }
+with_lines-begins names (line ∷ lines) =
+    further names (with_names names (instr_names line.instr)) (with_lines (with_names names (instr_names line.instr)) lines)
+    (with_names-begins names (instr_names line.instr)) (with_lines-begins (with_names names (instr_names line.instr)) lines)
+
+-- the parameters come first among the variables of a version
+pub parameters_first : (parameters : List (List ℕ)) (lines : List RawLine) → NamesDiffer parameters
+    → (others : List (List ℕ)) × (variables_of parameters lines ≡ parameters ++ others)
+parameters_first parameters lines differ =
+    let begins : Begins (with_names [] parameters) (variables_of parameters lines) = with_lines-begins (with_names [] parameters) lines in
+    (begins.others, begins.is ∙ ap (λ zs. zs ++ begins.others) (with_names-all_new [] parameters differ))

@@ -1,0 +1,8 @@
+use Rattle.std.proofs.Common.{take}
+use Rattle.std.specs.List.{AllByRecursion}
+use Rattle.sour_syntax.specs.declared.exit.Bind.{Bind}
+use Rattle.sour_syntax.specs.Scopes.{variables_of_expr, IsInScope}
+use Rattle.sour_syntax.proofs.scopes.map_has_variables.Given as goal
+
+abbrev pub invariant-loop-bind : goal.invariant-loop-bind
+invariant-loop-bind l = AllByRecursion (λ (bind : Bind). AllByRecursion (IsInScope l.scope) (variables_of_expr bind.value)) (take l.bind-index l.binds)
