@@ -17,6 +17,7 @@ ghost use Rattle.sour_machine.specs.Frame.{code_of, frame_lines};
 ghost use Rattle.sour_machine.specs.Moment.{state_at};
 ghost use Rattle.sour_machine.specs.Run.{TakesMemory};
 ghost use Rattle.sour_machine.specs.Instruction.{IsReady, ActsAs, IsCrossing, LeadsOut, EntersOr, HasPlaces, Leaves, CrossesTo};
+ghost use Rattle.sour_machine.specs.Leaving.{StandsAtInstr};
 
 use crate::activation::{Activation, Waiting};
 use crate::env::Env;
@@ -212,6 +213,7 @@ pub(crate) fn cross(
     requires calls { moment.old.calls + 1 < 2 ^ 64 }
     requires crossing { IsCrossing instr.now ⊎ LeadsOut instr.now moment.old.frame.env moment.old.heap }
     requires ready { IsReady instr.now moment.old.frame.env }
+    requires stands { StandsAtInstr program.now moment.old.frame instr.now }
     requires plain { is_anchor (label_at (frame_lines program.now moment.old.frame) moment.old.frame.place) ≡ false }
     requires named { AllByRecursion (IsNamed program.now.functions []) (continuations_of instr.now) }
     requires lands { AllByRecursion (Lands program.now.functions []) (continuations_of instr.now) }

@@ -1,9 +1,14 @@
 //! Leaving a frame by an exit.
 
-ghost use Rattle.std.specs.Prelude.{◌≡◌, ℕ, ◌+◌, ◌^◌, ◌<◌, List, [], ◌++◌, Option, None, map, reverse, IfOk, OnOk, OnErr};
+ghost use Rattle.std.specs.Prelude.{◌≡◌, ℕ, ◌+◌, ◌^◌, ◌<◌, List, [], ◌++◌, Option, None, Contains, map, reverse, IfOk, IfSome, OnOk, OnErr};
 ghost use Rattle.std.specs.List.{AllByRecursion};
+ghost use Rattle.sour_syntax.specs.declared.exit.Target.{Target};
+ghost use Rattle.sour_syntax.specs.declared.expression.Expr.{Expr};
+ghost use Rattle.sour_syntax.specs.declared.instruction.Instr.TheVariants.{Assume};
 ghost use Rattle.sour_syntax.specs.declared.literal.Literal.{Literal};
+ghost use Rattle.sour_syntax.specs.ExitPlaces.{LeadsTo};
 ghost use Rattle.sour_syntax.specs.Exits.{extra_continuation, continuations, bound_names, bound_values, extras_values, exit_values};
+ghost use Rattle.sour_syntax.specs.Labels.{labels_of, IsPlaceOf};
 ghost use Rattle.sour_syntax.specs.Targets.{IsNamed, Lands};
 ghost use Rattle.sour_semantics.specs.Evaluation.{eval_each};
 ghost use Rattle.sour_semantics.specs.Step.{exit_code, landed, landed_frames, leaves, takes_turn};
@@ -11,7 +16,7 @@ ghost use Rattle.sour_machine.specs.Scope.{HasValuesOfEach};
 ghost use Rattle.sour_machine.specs.Frame.{code_of, frame_at, StandsAtLine, StandsWaiting};
 ghost use Rattle.sour_machine.specs.Moment.{state_at};
 ghost use Rattle.sour_machine.specs.Instruction.{LeavesBy};
-ghost use Rattle.sour_machine.specs.Leaving.{bound_row};
+ghost use Rattle.sour_machine.specs.Leaving.{bound_row, StandsAtInstr, LeavesFor, LeavesForEach};
 ghost use Rattle.sour_machine.specs.Landing.{continuation, made_frame, made_waiting, made_frames, StandsFor};
 
 use crate::activation::{Activation, Waiting};
@@ -22,7 +27,7 @@ use crate::heap::Heap;
 use crate::moment::Moment;
 use crate::report::End;
 use crate::spare_rows::SpareRows;
-use sour_syntax::{Bind, Code, Exit, Extra, List, Program, Target, Trap};
+use sour_syntax::{Bind, Body, Code, Exit, Extra, Label, List, Program, Target, Trap};
 use std::alloc::{AllocError, Global};
 use std::mem;
 
@@ -69,16 +74,43 @@ pub(crate) fn exit_code(code: FrameCode, target: Code) -> FrameCode
     }
 }
 
-/// A frame that an exit makes out of another frame; or the first trap of its map.
+/// The place to which the frame with this number goes, of those that a frame makes by leaving, if the
+/// program keeps it.
+fn kept_place(program: &Program, frame: &Activation, number: usize) -> Option<usize>
+    ensures { IfSome result (λ place. (target : Target) → LeavesFor program.now frame.now number target → LeadsTo program.now.functions target place) }
+{
+    let FrameCode::Text(function, version) = frame.code;
+    program.exit_place(function, version, frame.place, number)
+}
+
+/// The place of a label of a body, which is looked up only where it isn't known.
+fn place_in(body: &Body, label: &Label, known: Option<usize>) -> usize
+    requires there { Contains (labels_of body.now.lines) label.now }
+    requires known { IfSome known (IsPlaceOf body.now.lines label.now) }
+    ensures { IsPlaceOf body.now.lines label.now result }
+{
+    if let Some(place) = known {
+        return place;
+    }
+    let Some(place) = body.place(label) else {
+        unreachable!();
+    };
+    place
+}
+
+/// The frame with this number of those that an exit makes out of another frame; or the first trap of its
+/// map.
 fn land(
     alloc: Global,
     program: &Program,
     frame: &Activation,
     heap: &Heap,
     rows: &mut SpareRows,
+    number: usize,
     target: &Target,
     binds: &[Bind],
 ) -> Result<Result<Activation, Trap>, AllocError>
+    requires leaves { LeavesFor program.now frame.now number target.now }
     requires values { HasValuesOfEach frame.now.env (bound_values binds.now) }
     requires named { IsNamed program.now.functions [] (continuation target.now binds.now None) }
     ensures lands { IfOk result (λ made. (waits : Option ℕ)
@@ -91,9 +123,8 @@ fn land(
     let Some(body) = code.body(program) else {
         unreachable!();
     };
-    let Some(place) = body.place(&target.label) else {
-        unreachable!();
-    };
+    let known = kept_place(program, frame, number);
+    let place = place_in(body, &target.label, known);
     let count = body.variables().len();
     match bound_row(&frame.env, heap, binds, count, rows.take(alloc))? {
         Ok(env) => Ok(Ok(Activation { code, place, env })),
@@ -110,6 +141,7 @@ fn land_extras(
     rows: &mut SpareRows,
     extras: &[Extra],
 ) -> Result<Result<List<Waiting>, Trap>, AllocError>
+    requires leaves { LeavesForEach program.now frame.now extras.now }
     requires values { HasValuesOfEach frame.now.env (extras_values extras.now) }
     requires named { AllByRecursion (IsNamed program.now.functions []) (map extra_continuation extras.now) }
     requires lands { AllByRecursion (Lands program.now.functions []) (map extra_continuation extras.now) }
@@ -117,9 +149,18 @@ fn land_extras(
     ensures stand { IfOk result (λ made. IfOk made (λ waiting. AllByRecursion (StandsWaiting program.now) waiting)) }
 {
     let mut made = Vec::with_capacity(alloc, extras.len())?;
-    for extra in extras {
+    for (number, extra) in extras.iter().enumerate() {
         let binds = extra.map.as_slice();
-        match land(alloc, program, frame, heap, rows, &extra.target, binds)? {
+        match land(
+            alloc,
+            program,
+            frame,
+            heap,
+            rows,
+            number + 1,
+            &extra.target,
+            binds,
+        )? {
             Ok(landed) => made.push(Waiting {
                 frame: landed,
                 result: extra.result,
@@ -139,6 +180,7 @@ fn land_exit(
     rows: &mut SpareRows,
     exit: &Exit,
 ) -> Result<Result<Landed, Trap>, AllocError>
+    requires stands { (es : List Expr) × StandsAtInstr program.now frame.now (Assume es exit.now) }
     requires values { HasValuesOfEach frame.now.env (exit_values exit.now) }
     requires named { AllByRecursion (IsNamed program.now.functions []) (continuations exit.now) }
     requires lands { AllByRecursion (Lands program.now.functions []) (continuations exit.now) }
@@ -147,7 +189,7 @@ fn land_exit(
     ensures extras { IfOk result (λ made. IfOk made (λ landed. AllByRecursion (StandsWaiting program.now) landed.extras)) }
 {
     let binds = exit.map.as_slice();
-    let top = match land(alloc, program, frame, heap, rows, &exit.target, binds)? {
+    let top = match land(alloc, program, frame, heap, rows, 0, &exit.target, binds)? {
         Ok(top) => top,
         Err(trap) => return Ok(Err(trap)),
     };
@@ -184,6 +226,7 @@ pub(crate) fn leave_by(
 ) -> Result<(), AllocError>
     requires going { moment.old.end ≡ End.Cut }
     requires turns { moment.old.turns + 1 < 2 ^ 64 }
+    requires stands { (es : List Expr) × StandsAtInstr program.now moment.old.frame (Assume es exit.now) }
     requires values { HasValuesOfEach moment.old.frame.env (exit_values exit.now) }
     requires named { AllByRecursion (IsNamed program.now.functions []) (continuations exit.now) }
     requires lands { AllByRecursion (Lands program.now.functions []) (continuations exit.now) }

@@ -5,6 +5,7 @@ pub mod EachExpression
 pub mod Following
 pub mod LabelSets
 pub mod JumpPlaces
+pub mod ExitPlaces
 pub mod GivesLaws
 pub mod SpreadLaws
 pub mod LastLine

@@ -9,6 +9,7 @@ pub mod Scopes
 pub mod Body
 pub mod Literals
 pub mod Targets
+pub mod ExitPlaces
 pub mod Limits
 pub mod Program
 pub mod Plan

@@ -5,6 +5,7 @@
 
 mod body;
 mod exit;
+mod exit_places;
 mod expression;
 mod instruction;
 mod job;
@@ -38,5 +39,5 @@ pub use list::List;
 pub use literal::{ArrayId, FunId, Literal, Value, VarId};
 pub use names::Names;
 pub use plan::{Pass, PlanJob, PlanPredicate, PlanSimple, Start};
-pub use program::{Function, Program, Version};
+pub use program::{Function, Program, Version, body_named};
 pub use trap::Trap;
