@@ -12,5 +12,6 @@ mod Measure
 mod Advances
 mod CallLaws
 mod LeavingLaws
+mod KeptPlaces
 mod MainLaws
 mod ExitLaws

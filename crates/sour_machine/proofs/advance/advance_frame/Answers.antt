@@ -1,4 +1,4 @@
-use Rattle.std.proofs.Common.{rules, ◌≡◌, ◌+◌, Ok, get_or, sym, ap, ◌∙◌, arith}
+use Rattle.std.proofs.Common.{rules, ◌≡◌, ◌+◌, Ok, get_or, refl, sym, ap, ◌∙◌, arith}
 use denote.Enum.Bare.{same_true}
 use Rattle.sour_machine.specs.contracts.advance.Pause.{the_type}
 use Rattle.sour_machine.specs.declared.advance.Pause.TheVariants.{Crossing}
@@ -26,6 +26,22 @@ cross-requires-clause-ready c =
     let reads : ReadsCrossing program old body line = ReadsCrossing-lines program start old body lines c.index-lines-moment.result c.args.budget c.requires.checked c.advance_in_frame.ensures.code c.in-Some.ensures
     c.lines.ensures.value c.lines.ensures.labels c.lines.ensures.end crossing (stands.at_line crossing.going) in
     IsReady-line program old line body reads.at reads.runs c.lines.ensures.scopes c.lines.ensures.mentions (stands.at_line crossing.going)
+
+pub cross-requires-clause-stands : goal.cross-requires-clause-stands
+cross-requires-clause-stands c =
+    let program = c.args.program.now in
+    let input = c.args.input.now in
+    let start = c.args.moment.now in
+    let old = c.advance_in_frame.new.moment in
+    let body = c.in-Some.body.now in
+    let lines = c.lines.result.now in
+    let line = get_or lines old.frame.place c.index-lines-moment.result in
+    let stands : Stands program input old = c.advance_in_frame.ensures.stands in
+    let pause : c.in_ok-pause.pause ≡ Crossing = same_true the_type (search rules) _ _ (sym c.if-eq.ensures) in
+    let crossing : StandsCrossing program c.args.budget old = c.advance_in_frame.ensures.crossing (c.in_ok-pause.was ∙ ap Ok pause) in
+    let reads : ReadsCrossing program old body line = ReadsCrossing-lines program start old body lines c.index-lines-moment.result c.args.budget c.requires.checked c.advance_in_frame.ensures.code c.in-Some.ensures
+    c.lines.ensures.value c.lines.ensures.labels c.lines.ensures.end crossing (stands.at_line crossing.going) in
+    record { line = line; found = reads.at.found; is = refl }
 
 pub cross-requires-clause-plain : goal.cross-requires-clause-plain
 cross-requires-clause-plain c =

@@ -6,7 +6,17 @@ use Rattle.sour_syntax.specs.Scopes.{IsInScope}
 use Rattle.sour_syntax.proofs.EachExpression.{values_split}
 use Rattle.sour_semantics.specs.Validity.{scope_of}
 use Rattle.sour_machine.specs.Scope.{HasValuesOfEach}
+use Rattle.sour_machine.specs.Leaving.{LeavesForEach}
+use Rattle.sour_machine.proofs.KeptPlaces.{LeavesFor-top, LeavesForEach-extras}
 use Rattle.sour_machine.proofs.leaving.land_exit.Goals as goal
+
+pub land-requires-clause-leaves : goal.land-requires-clause-leaves
+land-requires-clause-leaves c = LeavesFor-top c.args.program.now c.args.frame.now c.requires.stands.0 c.args.exit.now c.requires.stands.1
+
+pub land_extras-requires-clause-leaves : goal.land_extras-requires-clause-leaves
+land_extras-requires-clause-leaves c =
+    subst (LeavesForEach c.args.program.now c.args.frame.now) (sym c.as_slice.ensures)
+    (LeavesForEach-extras c.args.program.now c.args.frame.now c.requires.stands.0 c.args.exit.now c.requires.stands.1)
 
 pub land-requires-clause-values : goal.land-requires-clause-values
 land-requires-clause-values c =
