@@ -1,29 +1,14 @@
 //! Whether a frame that an exit makes stands where it may.
 
-ghost use Rattle.std.specs.Prelude.{◌≡◌, ◌<◌, ◌↔◌, [], length, IsTrue, IfOk, IfSome, IfNone};
-ghost use Rattle.std.specs.Option.{option_copied};
+ghost use Rattle.std.specs.Prelude.{◌≡◌, ◌<◌, ◌↔◌, length, IsTrue, IfOk, IfSome, IfNone};
 ghost use Rattle.sour_syntax.specs.Exits.{bound_names};
 ghost use Rattle.sour_syntax.specs.Labels.{label_at};
 ghost use Rattle.sour_syntax.specs.Scopes.{members, scope_with};
-ghost use Rattle.sour_syntax.specs.Targets.{named_body, scope_of_names};
+ghost use Rattle.sour_syntax.specs.Targets.{scope_of_names};
 ghost use Rattle.sour_scope.specs.Landings.{AreNames, IsFree, LandsAt, IsRight};
 
-use sour_syntax::{Bind, Body, Code, Function, Target, VarId};
+use sour_syntax::{Bind, Body, Function, Target, VarId, body_named};
 use std::alloc::{AllocError, Global};
-
-/// The body that a code names among the versions of these functions, if there is one.
-fn body_named<'a>(functions: &'a [Function], code: Code) -> Option<&'a Body>
-    ensures { option_copied result ≡ named_body functions.now [] code }
-{
-    match code {
-        Code::Text(function, version) => {
-            let function = functions.get(function.0 as usize)?;
-            let version = function.versions.get(version as usize)?;
-            Some(&version.body)
-        }
-        Code::Made(_) => None,
-    }
-}
 
 /// The marks of so many variables, where those that a map names are marked; none exactly where it
 /// names another, or one twice.
