@@ -28,23 +28,28 @@ IsValid-start_of program code body values heap rest output runs fine may =
     record { frames = (frame, tt); heap = may.heap_is; input = may.input; output = may.room; ending = (refl, tt) }
 
 -- the body of the version that main has
-runs_main : (program : ProgramView) (main : HasMain program) → body_at program (text program.main 0) ≡ Some main.version.body
+pub runs_main : (program : ProgramView) (main : HasMain program) → body_at program (text program.main 0) ≡ Some main.version.body
 runs_main program main =
     ap (λ (found : Option Function). text_body found 0) main.found
     ∙ ap (λ (versions : List Version). version_body (slice_get versions 0)) main.text
+
+-- a run of a body without parameters may start with the input of the program, no array and no output
+pub MayStart-main : (program : ProgramView) (parameters : ℕ) (input : List Literal) → parameters ≡ 0
+    → AllByRecursion (IsLiteralOf program) input → MayStart program parameters [] [] input []
+MayStart-main program parameters input none literals = record {
+  count = sym none;
+  are = tt;
+  heap_is = record { cells = omega arith; values = tt };
+  input = literals;
+  room = omega arith;
+}
 
 -- the start of a run of main is valid
 pub IsValid-start : (program : ProgramView) (input : List Literal) → IsProgram program → AllByRecursion (IsLiteralOf program) input
     → IsValid program (start program input)
 IsValid-start program input is literals =
     IsValid-start_of program (text program.main 0) is.main.version.body [] [] input [] (runs_main program is.main) tt
-    (record {
-      count = sym is.main.parameters;
-      are = tt;
-      heap_is = record { cells = omega arith; values = tt };
-      input = literals;
-      room = omega arith;
-    })
+    (MayStart-main program is.main.version.body.parameters input is.main.parameters literals)
 
 -- and so is every state behind a valid one
 IsValid-text_run : (program : ProgramView) (steps : ℕ) (s : State) → IsProgram program → IsValid program s
