@@ -32,9 +32,10 @@ use Rattle.sour_semantics.proofs.Runs.{text_run-suc}
 use Rattle.laws_validity.proofs.Bodies.{depth, Leads, IsBodyOf, IsBodyOf-code}
 use Rattle.laws_validity.proofs.Lists.{AllByRecursion-replicate}
 use Rattle.laws_validity.proofs.Reached.{reached}
+use Rattle.laws_validity.proofs.Runs.{IsValid-run_by, run_by-text}
 use Rattle.laws_validity.proofs.Steps.{IsValid-step}
 use Rattle.laws_runs.proofs.FollowingLines.{following}
-use Rattle.laws_runs.proofs.ChosenRuns.{turns-run_by, going_before, IsValid-run_by, run_by-text}
+use Rattle.laws_runs.proofs.ChosenRuns.{turns-run_by, going_before}
 use Rattle.laws_runs.proofs.LowerBodies.{left, left-most, anchor_made, HasTop, IfOk-top, left-lower}
 use Rattle.laws_runs.proofs.StepTurns.{Near-step}
 
