@@ -105,7 +105,7 @@ TakesParameters-found program earlier (first ∷ bodies) (suc place) body are fo
     TakesParameters-found program (earlier ++ first ∷ []) bodies place body are.1 found
 
 -- so does the body that has a number
-TakesParameters-made : (program : ProgramView) (bodies : List BodyView) (number : ℕ) (body : BodyView) → AreMadeBodies program [] bodies
+pub TakesParameters-made : (program : ProgramView) (bodies : List BodyView) (number : ℕ) (body : BodyView) → AreMadeBodies program [] bodies
     → made_body bodies number ≡ Some body → TakesParameters program body
 TakesParameters-made program bodies zero body are found = absurd (none-some body found)
 TakesParameters-made program bodies (suc place) body are found = TakesParameters-found program [] bodies place body are found

@@ -9,7 +9,7 @@ use Rattle.sour_syntax.specs.Program.{ProgramView, IsProgram}
 use Rattle.sour_syntax.specs.Targets.{text_body}
 use Rattle.sour_semantics.specs.State.{Heap, Frame, FrameCode, text, made, Ending, returned, stopped, trapped, stuck, State}
 use Rattle.std.specs.List.{AllByRecursion}
-use Rattle.sour_semantics.specs.Step.{Choice, Entry, text_version, bundle, BundleView, ends, resumes, step}
+use Rattle.sour_semantics.specs.Step.{Choice, Entry, text_version, bundle, BundleView, entered_code, ends, resumes, step}
 use Rattle.sour_semantics.specs.Run.{start_of, start, text_run}
 use Rattle.sour_semantics.specs.Shape.{IsReached}
 use Rattle.sour_semantics.specs.Validity.{IsValid}
@@ -114,11 +114,12 @@ IsTextCode (made bodies number) = ⊥
 abbrev pub TextAgrees : Type 0
 TextAgrees = (program : ProgramView) (s : State) → IsProgram program → AllByRecursion (λ frame. IsTextCode frame.code) s.frames → Agree program s s
 
--- where each call of a run of a checked program enters the text version or a lawful bundle, the run of the text shows what it shows, with as many turns or more
+-- where a run of a checked program starts as an entry enters main, and that entry and those of all its calls are the text version or lawful bundles, the run of the text shows what it shows, with as many turns or more
 abbrev pub RunsAreShown : Type 0
-RunsAreShown = (program : ProgramView) (input : List Literal) (choices : List Choice) → IsProgram program
-    → AllByRecursion (IsLiteral (length program.functions)) input → AllByRecursion (λ choice. IsLawfulEntry program choice.entry) choices
-    → IsShownFrom program (start program input) (run_by program choices (start program input))
+RunsAreShown = (program : ProgramView) (input : List Literal) (entry : Entry) (choices : List Choice) → IsProgram program
+    → AllByRecursion (IsLiteral (length program.functions)) input → IsLawfulEntry program entry
+    → AllByRecursion (λ choice. IsLawfulEntry program choice.entry) choices
+    → IsShownFrom program (start program input) (run_by program choices (start_of program (entered_code entry program.main) [] [] input []))
 
 -- the first version of a function, as a bundle of one body, shows from each start nothing that it doesn't show as the text
 abbrev pub TextAloneAgrees : Type 0

@@ -39,7 +39,8 @@ pub fn text_agrees()
     ensures { TextAgrees }
 {}
 
-/// What a run of a checked program shows whose calls enter lawful bundles, the run of the text shows.
+/// What a run of a checked program shows that enters `main`, and each function that it calls, by the text
+/// version or a lawful bundle, the run of the text shows.
 pub fn runs_are_shown()
     ensures { RunsAreShown }
 {}

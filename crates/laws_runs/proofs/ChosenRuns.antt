@@ -1,13 +1,9 @@
 -- Runs by choices.
-use Rattle.std.proofs.Common.{◌≡◌, ◌≤◌, ℕ, zero, suc, List, [], ◌∷◌, Option, None, Some, IsSome, replicate, refl, sym, ◌∙◌, subst, ap, arith}
-use Rattle.std.specs.List.{AllByRecursion}
-use Rattle.sour_syntax.specs.Program.{ProgramView, IsProgram}
+use Rattle.std.proofs.Common.{◌≡◌, ◌≤◌, List, [], ◌∷◌, Option, None, Some, IsSome, refl, sym, ◌∙◌, subst, ap, arith}
+use Rattle.sour_syntax.specs.Program.{ProgramView}
 use Rattle.sour_semantics.specs.State.{State, Ending}
-use Rattle.sour_semantics.specs.Step.{Choice, step, text_choice}
-use Rattle.sour_semantics.specs.Run.{text_run}
+use Rattle.sour_semantics.specs.Step.{Choice, step}
 use Rattle.sour_semantics.specs.Agreement.{run_by}
-use Rattle.sour_semantics.specs.Validity.{IsValid, MayChoose}
-use Rattle.laws_validity.proofs.Steps.{IsValid-step}
 use Rattle.laws_runs.proofs.RunRests.{stays}
 use Rattle.laws_runs.proofs.StepTurns.{Near-step}
 
@@ -36,15 +32,3 @@ gone_on program choices (Some ending) s is going =
 -- a run that goes on was going on before
 pub going_before : (program : ProgramView) (choices : List Choice) (s : State) → (run_by program choices s).ending ≡ None → s.ending ≡ None
 going_before program choices s going = gone_on program choices s.ending s refl going
-
--- each state behind a valid one is valid
-pub IsValid-run_by : (program : ProgramView) (choices : List Choice) (s : State) → IsProgram program
-    → AllByRecursion (MayChoose program) choices → IsValid program s → IsValid program (run_by program choices s)
-IsValid-run_by program [] s is may valid = valid
-IsValid-run_by program (choice ∷ choices) s is may valid =
-    IsValid-run_by program choices (step program choice s) is may.1 (IsValid-step program choice s is valid may.0)
-
--- a run of the text is one by its choice, taken so many times
-pub run_by-text : (program : ProgramView) (steps : ℕ) (s : State) → run_by program (replicate steps text_choice) s ≡ text_run program steps s
-run_by-text program zero s = refl
-run_by-text program (suc steps) s = run_by-text program steps (step program text_choice s)

@@ -5,3 +5,4 @@ pub mod FollowingLines
 pub mod ChosenRuns
 pub mod LowerBodies
 pub mod TurnsSoon
+pub mod RestReached

@@ -32,14 +32,15 @@ use Rattle.sour_semantics.proofs.Runs.{text_run-suc}
 use Rattle.laws_validity.proofs.Bodies.{depth, Leads, IsBodyOf, IsBodyOf-code}
 use Rattle.laws_validity.proofs.Lists.{AllByRecursion-replicate}
 use Rattle.laws_validity.proofs.Reached.{reached}
+use Rattle.laws_validity.proofs.Runs.{IsValid-run_by, run_by-text}
 use Rattle.laws_validity.proofs.Steps.{IsValid-step}
 use Rattle.laws_runs.proofs.FollowingLines.{following}
-use Rattle.laws_runs.proofs.ChosenRuns.{turns-run_by, going_before, IsValid-run_by, run_by-text}
+use Rattle.laws_runs.proofs.ChosenRuns.{turns-run_by, going_before}
 use Rattle.laws_runs.proofs.LowerBodies.{left, left-most, anchor_made, HasTop, IfOk-top, left-lower}
 use Rattle.laws_runs.proofs.StepTurns.{Near-step}
 
 -- a run that goes on with no turn more has less left
-abbrev IsNearer : ProgramView → ℕ → ℕ → State → Type 0
+abbrev pub IsNearer : ProgramView → ℕ → ℕ → State → Type 0
 IsNearer program most turns t = t.ending ≡ None → t.turns ≡ turns → left program t.frames < most
 
 -- whether or not a value comes
@@ -259,7 +260,7 @@ IsNearer-unless_ended program most turns None s t is h = h
 IsNearer-unless_ended program most turns (Some ending) s t is h = λ going same. absurd (cc)
 
 -- a step takes a turn, ends, or leaves less
-IsNearer-step : (program : ProgramView) (choice : Choice) (s : State) → IsProgram program → IsValid program s
+pub IsNearer-step : (program : ProgramView) (choice : Choice) (s : State) → IsProgram program → IsValid program s
     → IsNearer program (left program s.frames) s.turns (step program choice s)
 IsNearer-step program choice s checked valid =
     IsNearer-unless_ended program (left program s.frames) s.turns s.ending s (act_top program choice s.frames s) refl

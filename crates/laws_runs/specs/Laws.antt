@@ -2,6 +2,7 @@
 use Rattle.std.specs.Prelude.{◌≡◌, ◌+◌, ◌≤◌, ℕ, suc, List, None, length}
 use Rattle.std.specs.List.{AllByRecursion}
 use Rattle.sour_syntax.specs.declared.literal.Literal.{Literal}
+use Rattle.sour_syntax.specs.Literals.{IsLiteral}
 use Rattle.sour_syntax.specs.Program.{ProgramView, IsProgram}
 use Rattle.sour_semantics.specs.State.{State}
 use Rattle.sour_semantics.specs.Step.{Choice, step}
@@ -18,6 +19,11 @@ TakesAtMostOneTurn = (program : ProgramView) (choice : Choice) (s : State)
 abbrev pub RestsOnce : Type 0
 RestsOnce = (program : ProgramView) (input : List Literal) (budget : ℕ) (s t : State)
     → TextAt program input budget s → TextAt program input budget t → s ≡ t
+
+-- a run of the text of a checked program rests in some state, whatever the valid input and the budget
+abbrev pub RestsSomewhere : Type 0
+RestsSomewhere = (program : ProgramView) (input : List Literal) (budget : ℕ) → IsProgram program
+    → AllByRecursion (IsLiteral (length program.functions)) input → (state : State) × TextAt program input budget state
 
 -- a run of the text goes from one state to the other and rests there, with so many turns more
 pub record GoesOnBy (program : ProgramView) (turns : ℕ) (s t : State) : Type 0 where

@@ -2,7 +2,7 @@
 //! definitions of `sour_semantics` alone.
 #![tactic(auto)]
 
-ghost use Rattle.laws_runs.specs.Laws.{TakesAtMostOneTurn, RestsOnce, AdvancesAdd, TurnsComeSoon, TextTurnsComeSoon};
+ghost use Rattle.laws_runs.specs.Laws.{TakesAtMostOneTurn, RestsOnce, RestsSomewhere, AdvancesAdd, TurnsComeSoon, TextTurnsComeSoon};
 
 /// Turns never fall, and a step takes at most one.
 pub fn turns()
@@ -12,6 +12,11 @@ pub fn turns()
 /// The state at which a run of the text rests is determined by the program, the input and the budget.
 pub fn one_rest()
     ensures { RestsOnce }
+{}
+
+/// There is such a state, whatever the valid input and the budget.
+pub fn some_rest()
+    ensures { RestsSomewhere }
 {}
 
 /// To go on by some turns and then by others is to go on by all of them.

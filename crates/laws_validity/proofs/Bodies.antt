@@ -4,11 +4,13 @@ use Rattle.std.specs.Prelude.{IfSome, IsTrue, nat_eq}
 use Rattle.std.specs.Char.{is_ascii_alphabetic}
 use Rattle.std.specs.List.{AllByRecursion, slice_get}
 use Rattle.std.proofs.lemmas.Bool.{eqb-true}
-use Rattle.std.proofs.lemmas.Option.{same_Some, none-some}
+use Rattle.std.proofs.lemmas.List.{length-replicate, length-set}
+use Rattle.std.proofs.lemmas.Option.{IfSome_then, same_Some, none-some}
 use Rattle.sour_syntax.specs.declared.exit.Code.{Code}
 use Rattle.sour_syntax.specs.declared.exit.Code.TheVariants.{Text, Made}
 use Rattle.sour_syntax.specs.declared.instruction.Line.{Line}
 use Rattle.sour_syntax.specs.declared.literal.FunId.{FunId}
+use Rattle.sour_syntax.specs.declared.literal.VarId.{VarId}
 use Rattle.sour_syntax.specs.declared.program.Function.{Function}
 use Rattle.sour_syntax.specs.declared.program.Version.{Version}
 use Rattle.sour_syntax.specs.Body.{IsBody}
@@ -41,6 +43,8 @@ pub record Leads (program : ProgramView) (from : FrameCode) (continuation : Cont
   pub count : ℕ
   pub path : HasScope body count continuation.target.label
       (scope_with continuation.waits (scope_of_names (length body.variables) (bound_names continuation.binds)))
+  -- the variable that waits is one of the body's
+  pub waits : IfSome continuation.waits (λ x. x < length body.variables)
 
 -- what holds of a body that a frame runs as this code
 pub record IsBodyOf (program : ProgramView) (code : FrameCode) (body : BodyView) : Type 0 where
@@ -54,13 +58,27 @@ pub record IsBodyOf (program : ProgramView) (code : FrameCode) (body : BodyView)
       → HasScope body count label scope → IsLineAt body label line rest
       → AllByRecursion (Leads program code) (continuations_of line.instr)
 
+-- the scope of some variables says of each of the body whether it is one of them
+length-scope_of_names : (count : ℕ) (xs : List VarId) → length (scope_of_names count xs) ≡ count
+length-scope_of_names count [] = length-replicate count false
+length-scope_of_names count (x ∷ xs) = length-set (scope_of_names count xs) x.0 true ∙ length-scope_of_names count xs
+
 -- where a continuation lands it leads, if what it names stands below the code
 Leads-lands : (program : ProgramView) (from : FrameCode) (bodies : List BodyView) (continuation : Continuation)
     → ((body : BodyView) → named_body program.functions bodies continuation.target.code ≡ Some body
     → NamesBelow program from continuation.target.code body)
     → Lands program.functions bodies continuation → Leads program from continuation
 Leads-lands program from bodies continuation below lands =
-    record { body = lands.body; names = below lands.body lands.found; count = lands.count; path = lands.path }
+    let names : List VarId = bound_names continuation.binds in
+    let scope : Scope = scope_of_names (length lands.body.variables) names in
+    record {
+      body = lands.body;
+      names = below lands.body lands.found;
+      count = lands.count;
+      path = lands.path;
+      waits = IfSome_then continuation.waits {P = λ x. slice_get scope x ≡ Some false} {Q = λ x. x < length lands.body.variables} lands.free
+          (λ x free. omega (arith, slice_get-within scope x false free, length-scope_of_names (length lands.body.variables) names));
+    }
 
 -- an exit of a version names a version
 NamesBelow-text : (program : ProgramView) (function : FunId) (version : ℕ) (code : Code) (body : BodyView)

@@ -30,7 +30,7 @@ entered : (program : ProgramView) (frame : Frame) (frames : List Frame) (s : Sta
 entered program frame frames s x callee es next code body values true same runs fine valid at are = record {
   frames = (
     IsValidFrame-entered program (length s.heap) code body values runs fine (eqb-true (length values) body.parameters same) are,
-    (at.onward (length s.heap) next frame.environment (Some x.0) (0, omega arith, refl) refl valid.frames.0.values, valid.frames.1),
+    (at.onward (length s.heap) next frame.environment (Some x.0) (0, omega arith, refl) refl valid.frames.0.values at.places.0, valid.frames.1),
   );
   heap = valid.heap;
   input = valid.input;

@@ -1,19 +1,21 @@
 -- How a valid frame goes further.
-use Rattle.std.proofs.Common.{◌≡◌, ◌≤◌, ◌-◌, ℕ, zero, suc, List, [], ◌∷◌, ◌++◌, true, false, Option, None, Some, set, map, length, replicate, refl, sym, ap, ◌∙◌, subst, Contains}
-use Rattle.std.specs.Prelude.{is_some}
+use Rattle.std.proofs.Common.{◌≡◌, ◌<◌, ◌≤◌, ◌-◌, ℕ, zero, suc, List, [], ◌∷◌, ◌++◌, true, false, Option, None, Some, set, map, length, replicate, refl, sym, ap, ◌∙◌, subst, Contains}
+use Rattle.std.specs.Prelude.{IfSome, is_some}
 use Rattle.std.specs.List.{AllByRecursion, slice_get}
-use Rattle.std.proofs.lemmas.List.{map-set, set-get_or}
+use Rattle.std.proofs.lemmas.List.{map-set, set-get_or, length-map}
 use Rattle.std.proofs.lemmas.Option.{get_or_from_slice_get}
 use Rattle.sour_syntax.specs.declared.instruction.Instr.{Instr}
 use Rattle.sour_syntax.specs.declared.instruction.Line.{Line}
 use Rattle.sour_syntax.specs.declared.literal.Value.{Value}
+use Rattle.sour_syntax.specs.declared.literal.VarId.{VarId}
 use Rattle.sour_syntax.specs.BodyView.{BodyView}
 use Rattle.sour_syntax.specs.Labels.{first_label}
 use Rattle.sour_syntax.specs.Exits.{continuations_of}
 use Rattle.sour_syntax.specs.Literals.{literals_of}
 use Rattle.sour_syntax.specs.Program.{ProgramView, IsProgram}
-use Rattle.sour_syntax.specs.Scopes.{Scope, scope_after, followers, first_scope, scope_with, IsLineAt, HasScope, IsFine}
+use Rattle.sour_syntax.specs.Scopes.{Scope, mentioned, scope_after, followers, first_scope, scope_with, IsLineAt, HasScope, IsFine}
 use Rattle.sour_syntax.proofs.NoExits.{All-from_label}
+use Rattle.sour_syntax.proofs.ScopeLists.{length-HasScope}
 use Rattle.sour_semantics.specs.State.{Environment, Frame, FrameCode}
 use Rattle.sour_semantics.specs.Step.{body_at, first_environment, entered_frame}
 use Rattle.sour_semantics.specs.Validity.{IsValue, IsKept, IsCode, IsValidFrame, scope_of}
@@ -37,6 +39,7 @@ IsValidFrame-more program few many less frame valid = record {
   path = valid.path;
   values = AllByRecursion-weaker (IsKept (length program.functions) few) (IsKept (length program.functions) many)
       (IsKept-more (length program.functions) few many less) frame.environment valid.values;
+  place = valid.place;
 }
 
 -- a frame goes to this label with this environment
@@ -53,14 +56,23 @@ pub record StandsBefore (program : ProgramView) (frame : Frame) (instr : Instr) 
   pub fine : IsFine instr (scope_of frame.environment)
   pub literals : AllByRecursion (IsLiteralOf program) (literals_of instr)
   pub leads : AllByRecursion (Leads program frame.code) (continuations_of instr)
+  -- each variable that it mentions has its place
+  pub places : AllByRecursion (λ x. x.0 < length frame.environment) (mentioned instr)
   pub onward : (arrays : ℕ) (label : List ℕ) (environment : Environment) (waits : Option ℕ) → Contains (followers instr next) label
       → scope_with waits (scope_of environment) ≡ scope_after instr (scope_of frame.environment)
       → AllByRecursion (IsKept (length program.functions) arrays) environment
+      → IfSome waits (λ x. x < length environment)
       → IsValidFrame program arrays (standing frame label environment waits)
 
 -- a frame that waits for nothing has the scope of its environment
 free_scope : (waits : Option ℕ) (scope : Scope) → waits ≡ None → scope_with waits scope ≡ scope
 free_scope waits scope free = ap (λ (waits : Option ℕ). scope_with waits scope) free
+
+-- where nothing waits, each variable that waits has its place
+free_place : (waits : Option ℕ) (count : ℕ) → waits ≡ None → IfSome waits (λ x. x < count)
+free_place waits count free =
+    let Placed : Option ℕ → Type 0 = λ waits. IfSome waits (λ x. x < count) in
+    subst Placed (sym free) tt
 
 -- a valid frame stands before its instruction
 pub StandsBefore-frame : (program : ProgramView) (arrays : ℕ) (frame : Frame) (line : Line) (rest : List Line) → IsProgram program
@@ -72,19 +84,27 @@ StandsBefore-frame program arrays frame line rest is valid free at =
     let HasPath : Scope → Type 0 = HasScope body valid.count frame.label in
     let path : HasScope body valid.count frame.label (scope_of frame.environment) =
     subst HasPath (free_scope frame.waits (scope_of frame.environment) free) valid.path in
+    let Within : ℕ → Type 0 = λ count. AllByRecursion (λ (x : VarId). x.0 < count) (mentioned line.instr) in
+    let same : length body.variables ≡ length frame.environment =
+    sym (length-HasScope body one.is.parameters valid.count frame.label (scope_of frame.environment) path)
+    ∙ length-map frame.environment is_some in
     record {
       free = free;
       fine = one.is.scopes.fine valid.count frame.label (scope_of frame.environment) line rest path at;
       literals = All-from_label (λ (other : Line). AllByRecursion (IsLiteralOf program) (literals_of other.instr))
           frame.label body.lines line rest one.literals at.stands;
       leads = one.leads valid.count frame.label (scope_of frame.environment) line rest path at;
-      onward = λ arrays label environment waits follows scope values. record {
+      places = subst Within same
+          (All-from_label (λ (other : Line). AllByRecursion (λ (x : VarId). x.0 < length body.variables) (mentioned other.instr))
+          frame.label body.lines line rest one.is.mentions at.stands);
+      onward = λ arrays label environment waits follows scope values place. record {
         body = valid.body;
         runs = valid.runs;
         code = valid.code;
         count = suc valid.count;
         path = (frame.label, scope_of frame.environment, line, rest, path, at, follows, scope);
         values = values;
+        place = place;
       };
     }
 
@@ -96,6 +116,7 @@ pub IsValidFrame-moved : (program : ProgramView) (arrays : ℕ) (frame : Frame) 
     → IsValidFrame program arrays (moved frame label environment)
 IsValidFrame-moved program arrays frame instr next label environment at follows scope values =
     at.onward arrays label environment frame.waits follows (free_scope frame.waits (scope_of environment) at.free ∙ scope) values
+    (free_place frame.waits (length environment) at.free)
 
 -- a frame that waits for a result goes on where it stands when it gets one
 pub IsValidFrame-resumed : (program : ProgramView) (arrays : ℕ) (frame : Frame) (variable : ℕ) (value : Value)
@@ -113,6 +134,7 @@ IsValidFrame-resumed program arrays frame variable value valid waits is =
       count = valid.count;
       path = subst HasPath scope valid.path;
       values = AllByRecursion-set (IsKept (length program.functions) arrays) frame.environment variable (Some value) valid.values is;
+      place = tt;
     }
 
 -- no variable of a row without values is in scope
@@ -155,4 +177,5 @@ IsValidFrame-entered program arrays code body values runs fine same are =
       path = (refl, scope_of-first body values same);
       values = AllByRecursion-append Kept (map Some values) (replicate empty None) (are_kept (length program.functions) arrays values are)
           (AllByRecursion-replicate Kept empty None tt);
+      place = tt;
     }

@@ -1,8 +1,8 @@
 -- A valid state stays valid when the top frame leaves by an exit.
-use Rattle.std.proofs.Common.{◌≡◌, ℕ, zero, suc, List, [], ◌∷◌, ◌++◌, Bool, true, false, Option, None, Some, Result, Ok, Err, set, map, length, replicate, refl, sym, ap, ◌∙◌, subst, arith}
-use Rattle.std.specs.Prelude.{IfOk, is_some}
+use Rattle.std.proofs.Common.{◌≡◌, ◌<◌, ℕ, zero, suc, List, [], ◌∷◌, ◌++◌, Bool, true, false, Option, None, Some, Result, Ok, Err, set, map, length, replicate, refl, sym, ap, ◌∙◌, subst, arith}
+use Rattle.std.specs.Prelude.{IfOk, IfSome, is_some}
 use Rattle.std.specs.List.{AllByRecursion}
-use Rattle.std.proofs.lemmas.List.{map-set, length-map}
+use Rattle.std.proofs.lemmas.List.{map-set, length-map, length-replicate, length-set}
 use Rattle.sour_syntax.specs.declared.exit.Bind.{Bind}
 use Rattle.sour_syntax.specs.declared.exit.Exit.{Exit}
 use Rattle.sour_syntax.specs.declared.exit.Extra.{Extra}
@@ -71,6 +71,13 @@ are_bound functions arrays row (x ∷ names) (value ∷ values) all are =
     are_bound functions arrays (set row x.0 (Some value)) names values
     (AllByRecursion-set (IsKept functions arrays) row x.0 (Some value) all are.0) are.1
 
+-- a row has as many places when some variables get values
+length-bound : (row : Environment) (names : List VarId) (values : List Value) → length (bound row names values) ≡ length row
+length-bound row [] values = refl
+length-bound row (x ∷ names) [] = refl
+length-bound row (x ∷ names) (value ∷ values) =
+    length-bound (set row x.0 (Some value)) names values ∙ length-set row x.0 (Some value)
+
 -- as many values of the run as there are variables in a map
 abbrev AreFor : ProgramView → Heap → Continuation → List Value → Type 0
 AreFor program heap continuation values =
@@ -90,6 +97,11 @@ IsValidFrame-landed program from heap continuation values leads are =
     ∙ ap (λ (scope : Scope). with_names scope names) (scope_of-none count)
     ∙ with_names-none count names
     ∙ ap (λ (body : BodyView). scope_of_names (length body.variables) names) known) in
+    let Placed : ℕ → Type 0 = λ count. IfSome continuation.waits (λ x. x < count) in
+    let places : length leads.body.variables ≡ length (bound (replicate count None) names values) =
+    sym (length-bound (replicate count None) names values
+    ∙ length-replicate count None
+    ∙ ap (λ (body : BodyView). length body.variables) known) in
     let HasPath : Scope → Type 0 =
     λ scope. HasScope leads.body leads.count continuation.target.label (scope_with continuation.waits scope) in
     record {
@@ -100,6 +112,7 @@ IsValidFrame-landed program from heap continuation values leads are =
       path = subst HasPath scope leads.path;
       values = are_bound (length program.functions) (length heap) (replicate count None) names values
           (AllByRecursion-replicate (IsKeptOf program heap) count None tt) are.1;
+      place = subst Placed places leads.waits;
     }
 
 -- there are as many values as expressions

@@ -10,6 +10,7 @@ use Rattle.sour_semantics.specs.State.{Heap, FrameCode, stuck, State}
 use Rattle.sour_semantics.specs.Step.{Choice, step, body_at}
 use Rattle.sour_semantics.specs.Run.{start_of, start, text_run}
 use Rattle.sour_semantics.specs.Validity.{IsCode, IsValid, MayChoose, MayStart}
+use Rattle.sour_semantics.specs.Agreement.{run_by}
 
 -- the start of a run of any code of a checked program, text or made, is valid where the run may start with what it gets
 abbrev pub CallStartsValid : Type 0
@@ -27,6 +28,12 @@ StartsValid = (program : ProgramView) (input : List Literal) → IsProgram progr
 abbrev pub StaysValid : Type 0
 StaysValid = (program : ProgramView) (choice : Choice) (s : State) → IsProgram program
     → IsValid program s → MayChoose program choice → IsValid program (step program choice s)
+
+-- each state to which a run of a checked program comes from a valid one is valid, and so isn't stuck, whatever each step may choose
+abbrev pub NeverGetsStuckBy : Type 0
+NeverGetsStuckBy = (program : ProgramView) (choices : List Choice) (s : State) → IsProgram program → IsValid program s
+    → AllByRecursion (MayChoose program) choices
+    → IsValid program (run_by program choices s) × ¬ ((run_by program choices s).ending ≡ Some stuck)
 
 -- a run of a checked program never gets stuck
 abbrev pub NeverGetsStuck : Type 0

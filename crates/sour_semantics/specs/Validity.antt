@@ -1,5 +1,5 @@
 -- What holds at every moment of a run of a checked program.
-use Rattle.std.specs.Prelude.{◌≡◌, ◌≤◌, ◌<◌, ℕ, List, [], ◌∷◌, Option, None, Some, is_some, length, map}
+use Rattle.std.specs.Prelude.{◌≡◌, ◌≤◌, ◌<◌, ℕ, List, [], ◌∷◌, Option, None, Some, IfSome, is_some, length, map}
 use Rattle.std.specs.List.{AllByRecursion}
 use Rattle.sour_syntax.specs.declared.literal.Literal.{Literal}
 use Rattle.sour_syntax.specs.declared.literal.Value.{Value}
@@ -32,7 +32,7 @@ abbrev pub IsCode : ProgramView → FrameCode → Type 0
 IsCode program (text function version) = Unit {0}
 IsCode program (made bodies number) = (function : FunId) × HasShape program (record { function = function; bodies = bodies })
 
--- a frame runs a version of the program or a body of a bundle of it, and has, with its waiting variable set, exactly the scope of its label
+-- a frame runs a version of the program or a body of a bundle of it, and has, with its waiting variable set, exactly the scope of its label; the variable that waits has its place in the environment
 pub record IsValidFrame (program : ProgramView) (arrays : ℕ) (frame : Frame) : Type 0 where
   pub body : BodyView
   pub runs : body_at program frame.code ≡ Some body
@@ -40,6 +40,7 @@ pub record IsValidFrame (program : ProgramView) (arrays : ℕ) (frame : Frame) :
   pub count : ℕ
   pub path : HasScope body count frame.label (scope_with frame.waits (scope_of frame.environment))
   pub values : AllByRecursion (IsKept (length program.functions) arrays) frame.environment
+  pub place : IfSome frame.waits (λ x. x < length frame.environment)
 
 -- a frame waits for the result of the one above it
 abbrev pub Waits : Option ℕ → Type 0
