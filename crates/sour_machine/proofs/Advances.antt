@@ -19,7 +19,7 @@ use Rattle.sour_syntax.specs.Terminator.{EndsInTerminator}
 use Rattle.sour_syntax.specs.Program.{ProgramView, IsPlainName, IsProgram}
 use Rattle.sour_semantics.specs.State.{Environment, Frame, State, text}
 use Rattle.sour_semantics.specs.Step.{text_choice, body_or_empty, body_at, body_of, is_anchor, act, step}
-use Rattle.sour_semantics.specs.Run.{start}
+use Rattle.sour_semantics.specs.Run.{start, TakesTurn}
 use Rattle.sour_semantics.specs.Validity.{scope_of}
 use Rattle.sour_semantics.proofs.Places.{step-at_place}
 use Rattle.sour_syntax.proofs.LabelPlaces.{from_label-first_label-drop, drop-slice_get, lt-EndsInTerminator}
@@ -32,7 +32,8 @@ use Rattle.sour_machine.specs.End.{ending_of, is_memory}
 use Rattle.sour_machine.specs.Frame.{code_of, frame_lines, frame_at, waiting_at, StandsAtLine, StandsWaiting}
 use Rattle.sour_machine.specs.Instruction.{IsReady, ActsAs, IsCrossing, LeadsOut, GoesFurther, ComesTo, StaysInFrame, AlwaysTakesTurn, StaysWithoutTurn, StandsCrossing}
 use Rattle.sour_machine.specs.Moment.{state_at, run_at, Stands}
-use Rattle.sour_machine.specs.Run.{GoesOn, IsAtTurns, TakesMemory, StandsWanting, is_call, first_calls, top_calls}
+use Rattle.sour_machine.specs.Run.{GoesOn, IsAtTurns, is_call, first_calls, top_calls}
+use Rattle.sour_machine.specs.Want.{TakesMemory, WantsMemory}
 use Rattle.sour_machine.proofs.Checked.{IsTextBody-runs, plain-anchor}
 use Rattle.sour_machine.proofs.Scopes.{All-at}
 use Rattle.sour_machine.proofs.FrameLaws.{frame_lines-are}
@@ -177,12 +178,22 @@ GoesOn-act program input old mid new line at acts other stays on =
     let none = entered-none program (state_at program input mid) (state_at program input new) (top_calls-line program input mid line at ∙ other) in
     GoesOn-on program input old mid new on (GoesOn-one program input mid new (step-state_at program input mid line at ∙ sym acts) (omega (arith, none, stays.calls)))
 
--- the run at the line that wanted memory
-pub StandsWanting-line : (program : ProgramView) (input : List Literal) (mid new : Moment) (line : Line) → IsAt program mid line → TakesMemory line.instr → new ≡ mid
-    → StandsWanting (run_at program input true new)
-StandsWanting-line program input mid new line at takes same =
-    let At : Moment → Type 0 = λ moment. StandsWanting (run_at program input true moment) in
+-- where a line takes no turn unless it leads out, and does not lead out, the next step takes none
+pub turn-none : (program : ProgramView) (input : List Literal) (moment : Moment) (line : Line) → IsAt program moment line → (LeadsOut line.instr moment.frame.env moment.heap → ⊥) → StaysWithoutTurn line.instr
+    → TakesTurn program (state_at program input moment) → ⊥
+turn-none program input moment line at inside without takes =
+    let none : (step program text_choice (state_at program input moment)).turns ≡ moment.turns =
+    ap (λ (s : State). s.turns) (step-state_at program input moment line at)
+    ∙ without program (frame_at program moment.frame None) (label_at (frame_lines program moment.frame) (moment.frame.place + 1)) (state_at program input moment) inside in
+    omega (arith, takes, none)
+
+-- the run at a line that wanted memory
+pub WantsMemory-line : (program : ProgramView) (input : List Literal) (budget : ℕ) (mid new : Moment) (line : Line) → IsAt program mid line → TakesMemory line.instr mid.frame.env mid.heap
+    → (TakesTurn program (state_at program input mid) → mid.turns < budget) → new ≡ mid → WantsMemory budget (run_at program input true new)
+WantsMemory-line program input budget mid new line at takes turn same =
+    let At : Moment → Type 0 = λ moment. WantsMemory budget (run_at program input true moment) in
     subst At (sym same) (record {
+      going = ap ending_of at.going;
       frame = frame_at program mid.frame None;
       others = reverse (map (waiting_at program) mid.below);
       line = line;
@@ -190,6 +201,7 @@ StandsWanting-line program input mid new line at takes same =
       top = refl;
       stands = from_label-place program mid line at;
       takes = takes;
+      turn = turn;
     })
 
 -- the turns behind the line at which a run stands

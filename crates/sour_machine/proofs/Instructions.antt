@@ -19,6 +19,7 @@ use Rattle.sour_semantics.specs.Step.{Entry, Choice, text_choice, body_at, ends,
 use Rattle.sour_semantics.specs.Evaluation.{eval, eval_each, operand, truth_in, function_in, holds_each}
 use Rattle.sour_machine.specs.Instruction.{IsCrossing, LeadsOut, AlwaysTakesTurn, StaysWithoutTurn}
 use Rattle.sour_machine.specs.Run.{is_call}
+use Rattle.sour_machine.specs.Want.{TakesMemoryInside}
 
 module _ (program : ProgramView) (choice : Choice) (frame : Frame) (expr : Expr) (next : List ℕ) (s : State) (trap : Trap) (evaluated : eval frame.environment s.heap expr ≡ Err trap) where
   pub act-set-trap : (x : VarId) → act program choice frame (Var x expr) next s ≡ ends (trapped trap) s
@@ -140,6 +141,23 @@ crossing-stays (Call x callee es) environment heap crosses out = out
 crossing-stays (Return e) environment heap crosses out = out
 crossing-stays Stop environment heap crosses out = out
 crossing-stays (Assume es exit) environment heap crosses out = crosses
+
+-- nor has one that takes memory in its frame
+pub inside-stays : (instr : Instr) (environment : Environment) (heap : Heap) → TakesMemoryInside instr → LeadsOut instr environment heap → ⊥
+inside-stays (Var x e) environment heap takes out = out
+inside-stays (Drop x) environment heap takes out = out
+inside-stays (Assign x e) environment heap takes out = out
+inside-stays (ArrayLength x e) environment heap takes out = out
+inside-stays (ArrayList x es) environment heap takes out = out
+inside-stays (Store x index e) environment heap takes out = out
+inside-stays (Print e) environment heap takes out = out
+inside-stays (Read x) environment heap takes out = out
+inside-stays (Branch e a b) environment heap takes out = out
+inside-stays (Goto a) environment heap takes out = out
+inside-stays (Call x callee es) environment heap takes out = out
+inside-stays (Return e) environment heap takes out = out
+inside-stays Stop environment heap takes out = out
+inside-stays (Assume es exit) environment heap takes out = takes
 
 -- no instruction that leads out is a call
 pub calls_none-out : (instr : Instr) (environment : Environment) (heap : Heap) → LeadsOut instr environment heap → is_call instr ≡ false

@@ -1,16 +1,17 @@
 -- Runs that go on.
-use Rattle.std.proofs.Common.{◌≡◌, ℕ, zero, suc, ◌+◌, List, Bool, true, false, None, cond, Result, Ok, Err, refl, ap, ◌∙◌, arith}
+use Rattle.std.proofs.Common.{◌≡◌, ℕ, zero, suc, ◌+◌, List, Bool, true, false, None, cond, Result, Ok, Err, refl, sym, ap, ◌∙◌, subst, arith}
 use Rattle.std.specs.Prelude.{◌&&◌, is_none}
 use Rattle.std.specs.Result.{OnErr}
 use Rattle.sour_syntax.specs.declared.literal.Literal.{Literal}
 use Rattle.sour_syntax.specs.Program.{ProgramView}
 use Rattle.sour_semantics.specs.State.{State}
 use Rattle.sour_semantics.specs.Step.{text_choice, step}
-use Rattle.sour_semantics.specs.Run.{text_run}
+use Rattle.sour_semantics.specs.Run.{text_run, TakesTurn}
 use Rattle.sour_machine.specs.declared.moment.Moment.{Moment}
 use Rattle.sour_machine.specs.declared.report.End.TheVariants.{Cut, Memory}
 use Rattle.sour_machine.specs.Moment.{state_at, run_at}
 use Rattle.sour_machine.specs.Run.{GoesOn, top_calls, entered_by, count_calls}
+use Rattle.sour_machine.specs.Want.{WantsMemory}
 
 -- what holds whatever the result is
 pub OnErr-any : {X E : Type 0} {P : Type 0} (outcome : Result X E) → P → OnErr outcome P
@@ -111,3 +112,20 @@ module _ (program : ProgramView) (input : List Literal) where
     entered = λ was. refl;
     before_main = λ outside. cc;
   }
+
+  -- and a run that may want memory still may
+  pub WantsMemory-wanting : (budget : ℕ) (new : Moment) → new.end ≡ Cut → WantsMemory budget (run_at program input true new) → WantsMemory budget (run_at program input true (record new { end = Memory }))
+  WantsMemory-wanting budget new going wants =
+      let same : state_at program input new ≡ state_at program input (record new { end = Memory }) = ap (λ end. state_at program input (record new { end = end })) going in
+      let Takes : State → Type 0 = TakesTurn program in
+      record {
+        going = refl;
+        frame = wants.frame;
+        others = wants.others;
+        line = wants.line;
+        behind = wants.behind;
+        top = wants.top;
+        stands = wants.stands;
+        takes = wants.takes;
+        turn = λ takes. wants.turn (subst Takes (sym same) takes);
+      }

@@ -8,6 +8,7 @@ pub mod Frame
 pub mod Run
 pub mod Moment
 pub mod Instruction
+pub mod Want
 pub mod Landing
 pub mod MainLines
 pub mod MainExits

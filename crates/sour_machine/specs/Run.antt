@@ -93,30 +93,3 @@ Tells Memory budget run = IsTrue run.wanting
 abbrev pub IsAtRest : RunView → Type 0
 IsAtRest run =
     IsTrue run.wanting ⊎ (IsTrue run.entered × (IsSome run.state.ending ⊎ TakesTurn run.program run.state))
-
--- the instruction takes memory: it writes, makes an array, enters a frame or leaves by an exit
-abbrev pub TakesMemory : Instr → Type 0
-TakesMemory (Var x e) = ⊥
-TakesMemory (Drop x) = ⊥
-TakesMemory (Assign x e) = ⊥
-TakesMemory (ArrayLength x e) = Unit {0}
-TakesMemory (ArrayList x es) = Unit {0}
-TakesMemory (Store x index e) = ⊥
-TakesMemory (Print e) = Unit {0}
-TakesMemory (Read x) = ⊥
-TakesMemory (Branch e a b) = ⊥
-TakesMemory (Goto a) = ⊥
-TakesMemory (Call x callee es) = Unit {0}
-TakesMemory (Return e) = ⊥
-TakesMemory Stop = ⊥
-TakesMemory (Assume es exit) = Unit {0}
-
--- the line at which the top frame of the run stands is one that takes memory
-pub record StandsWanting (run : RunView) : Type 0 where
-  pub frame : Frame
-  pub others : List Frame
-  pub line : Line
-  pub behind : List Line
-  pub top : run.state.frames ≡ frame ∷ others
-  pub stands : from_label frame.label (lines_of run.program frame.code) ≡ line ∷ behind
-  pub takes : TakesMemory line.instr

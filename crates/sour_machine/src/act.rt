@@ -15,8 +15,9 @@ ghost use Rattle.sour_semantics.specs.Validity.{scope_of};
 ghost use Rattle.sour_machine.specs.Scope.{HasValues, HasValuesOfEach};
 ghost use Rattle.sour_machine.specs.Frame.{frame_lines};
 ghost use Rattle.sour_machine.specs.Moment.{state_at};
-ghost use Rattle.sour_machine.specs.Run.{TakesMemory, is_call};
+ghost use Rattle.sour_machine.specs.Run.{is_call};
 ghost use Rattle.sour_machine.specs.Instruction.{IsReady, ActsAs, IsCrossing, LeadsOut, ComesTo, StaysInFrame, AlwaysTakesTurn, StaysWithoutTurn};
+ghost use Rattle.sour_machine.specs.Want.{TakesMemoryInside};
 
 use crate::arrays::{make_empty, make_list, store};
 use crate::evaluation::eval;
@@ -58,9 +59,10 @@ pub(crate) enum Acted {
     Leaving,
 }
 
-/// Carries out one instruction of a run on this input, or none where memory is wanting. The jump has the
-/// places of the labels that the instruction names. Of an instruction that enters a frame or leaves one it
-/// says so, and does nothing. An assume whose predicates hold takes no turn.
+/// Carries out one instruction of a run on this input, or none where memory is wanting, which only a print
+/// and a new array take. The jump has the places of the labels that the instruction names. Of an instruction
+/// that enters a frame or leaves one it says so, and does nothing. An assume whose predicates hold takes no
+/// turn.
 ///
 /// Most instructions set a variable or jump. The functions of the others aren't inlined, so the loop stays
 /// small.
@@ -87,7 +89,7 @@ pub(crate) fn act(
     ensures stays { StaysInFrame moment.old moment.new }
     ensures within { moment.new.read ≤ length input.now }
     ensures err { OnErr result (moment.new ≡ moment.old) }
-    ensures wants { OnErr result (TakesMemory instr.now) }
+    ensures wants { OnErr result (TakesMemoryInside instr.now) }
 {
     match instr {
         Instr::Var(x, expr) | Instr::Assign(x, expr) => set(moment, *x, expr),

@@ -4,8 +4,9 @@ ghost use Rattle.sour_syntax.specs.Program.{IsProgram};
 ghost use Rattle.sour_semantics.specs.Step.{body_at};
 ghost use Rattle.sour_machine.specs.Frame.{code_of};
 ghost use Rattle.sour_machine.specs.Moment.{run_at, Stands};
-ghost use Rattle.sour_machine.specs.Run.{GoesOn, IsAtTurns, Tells, StandsWanting};
+ghost use Rattle.sour_machine.specs.Run.{GoesOn, IsAtTurns, Tells};
 ghost use Rattle.sour_machine.specs.Instruction.{StandsCrossing};
+ghost use Rattle.sour_machine.specs.Want.{WantsMemory};
 
 use crate::act::{Acted, act, takes_turn};
 use crate::calls::cross;
@@ -52,7 +53,7 @@ fn advance_in_frame(
     ensures ended { result ≡ Ok Pause.Ended → IsSome (run_at program.now input.now true moment.new).state.ending }
     ensures more_turns { result ≡ Ok Pause.MoreTurns → (moment.new.end ≡ End.Cut) × IsAtTurns budget (run_at program.now input.now true moment.new) }
     ensures crossing { result ≡ Ok Pause.Crossing → StandsCrossing program.now budget moment.new }
-    ensures wants { OnErr result ((moment.new.end ≡ End.Cut) × StandsWanting (run_at program.now input.now true moment.new)) }
+    ensures wants { OnErr result ((moment.new.end ≡ End.Cut) × WantsMemory budget (run_at program.now input.now true moment.new)) }
 {
     let lines = body.lines();
     let jumps = body.jumps();
@@ -93,7 +94,7 @@ fn advance_frame(
     ensures ended { result ≡ Ok Pause.Ended → IsSome (run_at program.now input.now true moment.new).state.ending }
     ensures more_turns { result ≡ Ok Pause.MoreTurns → (moment.new.end ≡ End.Cut) × IsAtTurns budget (run_at program.now input.now true moment.new) }
     ensures crossing { result ≡ Ok Pause.Crossing → moment.old.turns < moment.new.turns }
-    ensures wants { OnErr result ((moment.new.end ≡ End.Cut) × StandsWanting (run_at program.now input.now true moment.new)) }
+    ensures wants { OnErr result ((moment.new.end ≡ End.Cut) × WantsMemory budget (run_at program.now input.now true moment.new)) }
 {
     let Some(body) = moment.frame.code.body(program) else {
         unreachable!();
@@ -125,7 +126,7 @@ pub(crate) fn advance(
     ensures within { moment.new.turns ≤ budget }
     ensures tells { Tells result budget (run_at program.now input.now true moment.new) }
     ensures stands { Stands program.now input.now moment.new }
-    ensures memory { result ≡ Advance.Memory → StandsWanting (run_at program.now input.now true moment.new) }
+    ensures memory { result ≡ Advance.Memory → WantsMemory budget (run_at program.now input.now true moment.new) }
 {
     // What this ensures is that the program is checked.
     let _ = program.main();

@@ -1,6 +1,6 @@
 //! The instructions that enter a frame or leave one.
 
-ghost use Rattle.std.specs.Prelude.{◌≡◌, ◌⊎◌, ◌+◌, ◌^◌, ◌<◌, ◌≤◌, List, [], Some, false, length, map, OnOk, OnErr};
+ghost use Rattle.std.specs.Prelude.{◌≡◌, ◌⊎◌, ◌+◌, ◌^◌, ◌<◌, ◌≤◌, List, [], Some, false, length, map, IsTrue, OnOk, OnErr};
 ghost use Rattle.std.specs.List.{AllByRecursion};
 ghost use Rattle.sour_syntax.specs.declared.literal.Literal.{Literal};
 ghost use Rattle.sour_syntax.specs.declared.literal.Value.{Value};
@@ -15,7 +15,7 @@ ghost use Rattle.sour_semantics.specs.Validity.{scope_of};
 ghost use Rattle.sour_machine.specs.Scope.{HasValues, HasValuesOfEach};
 ghost use Rattle.sour_machine.specs.Frame.{code_of, frame_lines};
 ghost use Rattle.sour_machine.specs.Moment.{state_at};
-ghost use Rattle.sour_machine.specs.Run.{TakesMemory};
+ghost use Rattle.sour_machine.specs.Run.{is_call};
 ghost use Rattle.sour_machine.specs.Instruction.{IsReady, ActsAs, IsCrossing, LeadsOut, EntersOr, HasPlaces, Leaves, CrossesTo};
 ghost use Rattle.sour_machine.specs.Leaving.{StandsAtInstr};
 
@@ -223,7 +223,7 @@ pub(crate) fn cross(
     ensures has_memory { ¬ (moment.new.end ≡ End.Memory) }
     ensures reads { moment.new.read ≡ moment.old.read }
     ensures err { OnErr result (moment.new ≡ moment.old) }
-    ensures wants { OnErr result (TakesMemory instr.now) }
+    ensures wants { OnErr result (IsTrue (is_call instr.now) ⊎ LeadsOut instr.now moment.old.frame.env moment.old.heap) }
 {
     match instr {
         Instr::Call(x, callee, arguments) => {

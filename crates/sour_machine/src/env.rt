@@ -50,7 +50,8 @@ impl Env {
     /// Puts variables without a value behind the others, up to this number of variables.
     pub fn extend_to(&mut self, count: usize) -> Result<(), AllocError>
         requires { length self.old ≤ count }
-        ensures { OnOk result (self.new ≡ self.old ++ replicate (count - length self.old) None) }
+        ensures ok { OnOk result (self.new ≡ self.old ++ replicate (count - length self.old) None) }
+        ensures err { OnErr result (self.new ≡ self.old) }
     {
         self.values.resize(count, None)
     }

@@ -1,7 +1,8 @@
 ghost use Rattle.std.specs.Prelude.{◌≡◌, ◌≢◌, ◌+◌, ◌≤◌, ◌↔◌, ◌⊎◌, true, false, length, IsTrue, IfOk};
 ghost use Rattle.sour_semantics.specs.Run.{start};
 ghost use Rattle.sour_machine.specs.End.{ending_of, returned_cells};
-ghost use Rattle.sour_machine.specs.Run.{GoesOn, Tells, IsAtRest, StandsWanting, main_entered};
+ghost use Rattle.sour_machine.specs.Run.{GoesOn, Tells, IsAtRest, main_entered};
+ghost use Rattle.sour_machine.specs.Want.{WantsMemory};
 
 use crate::activation::Activation;
 use crate::advance::advance;
@@ -117,9 +118,9 @@ impl Run {
         // Want of memory is for good.
         ensures wanting { IsTrue self.old.wanting → self.new ≡ self.old }
 
-        // No other instructions take memory than those that write, make an array, enter a frame or leave by an
-        // exit.
-        ensures memory { result ≡ Advance.Memory → IsTrue self.old.wanting ⊎ StandsWanting self.new }
+        // No other instructions take memory than those that write, make an array or call, and an assume whose
+        // predicates lead to its exit; and none wants any whose turn is not left.
+        ensures memory { result ≡ Advance.Memory → IsTrue self.old.wanting ⊎ WantsMemory (self.old.state.turns + turns) self.new }
     {
         if let End::Memory = self.moment.end {
             return Advance::Memory;

@@ -1,6 +1,7 @@
 ghost use Rattle.std.specs.Prelude.{◌≡◌, ◌∷◌, [], IfOk};
 
-use crate::{Env, Heap, eval};
+use super::programs::printing;
+use crate::{Env, Heap, eval, value_text};
 use sour_syntax::{ArrayId, Expr, FunId, List, Literal, Op, Simple, Trap, Value, VarId};
 use std::alloc::{AllocError, Global};
 use std::test::Fail;
@@ -216,6 +217,27 @@ fn counts_the_cells_of_arrays(rt: HostRuntime) -> Result<(), Fail> {
     assert_eq!(rt; length, Ok(Value::Plain(Literal::Number(2))));
     let length = eval(&env, &heap, &Expr::Length(Simple::Lit(Literal::Number(2))));
     assert_eq!(rt; length, Err(Trap::BadType));
+    Ok(())
+}
+
+#[test]
+fn gives_the_text_of_values(rt: HostRuntime) -> Result<(), Fail> {
+    let program = printing(rt.alloc(), Literal::Nil, false)?.expect(&rt, "a body");
+    let heap = heap_of_one(rt.alloc())?;
+    let rows = [
+        (Value::Plain(Literal::Number(-70)), b"-70".as_slice()),
+        (Value::Plain(Literal::Truth(true)), b"true".as_slice()),
+        (Value::Plain(Literal::Nil), b"nil".as_slice()),
+        (
+            Value::Plain(Literal::Function(FunId(0))),
+            b"&main".as_slice(),
+        ),
+        (Value::Array(ArrayId(0)), b"array(2)".as_slice()),
+    ];
+    for (value, expected) in rows {
+        let text = value_text(rt.alloc(), value, &program, &heap)?;
+        assert_eq!(rt; text.as_slice(), expected);
+    }
     Ok(())
 }
 

@@ -1,4 +1,4 @@
-use Rattle.sour_machine.proofs.RunLaws.{GoesOn-on, GoesOn-wanting}
+use Rattle.sour_machine.proofs.RunLaws.{GoesOn-on, GoesOn-wanting, WantsMemory-wanting}
 use Rattle.sour_machine.proofs.advance.advance.Goals as goal
 
 pub returns-in-Ok-MoreTurns-clause-goes_on : goal.returns-in-Ok-MoreTurns-clause-goes_on
@@ -28,3 +28,7 @@ returns-in-Err-clause-goes_on c =
     let old = c.args.moment.now in
     let new = c.advance_frame.new.moment in
     GoesOn-wanting program input old new c.in-Err.ensures.wants.0 (GoesOn-on program input old c.loop-moment.moment new c.loop-moment.invariant.goes_on c.advance_frame.ensures.goes_on)
+
+pub returns-in-Err-clause-memory : goal.returns-in-Err-clause-memory
+returns-in-Err-clause-memory c = λ memory.
+    WantsMemory-wanting c.args.program.now c.args.input.now c.args.budget c.advance_frame.new.moment c.in-Err.ensures.wants.0 c.in-Err.ensures.wants.1

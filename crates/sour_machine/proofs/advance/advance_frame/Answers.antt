@@ -1,11 +1,11 @@
-use Rattle.std.proofs.Common.{rules, ◌≡◌, ◌+◌, Ok, get_or, refl, sym, ap, ◌∙◌, arith}
+use Rattle.std.proofs.Common.{rules, ◌≡◌, ◌+◌, Ok, get_or, refl, sym, ap, ◌∙◌, inr, arith}
 use denote.Enum.Bare.{same_true}
 use Rattle.sour_machine.specs.contracts.advance.Pause.{the_type}
 use Rattle.sour_machine.specs.declared.advance.Pause.TheVariants.{Crossing}
 use Rattle.sour_machine.specs.declared.moment.Moment.{Moment}
 use Rattle.sour_machine.specs.Instruction.{StandsCrossing}
 use Rattle.sour_machine.specs.Moment.{Stands}
-use Rattle.sour_machine.proofs.Advances.{IsReady-line, IsNamed-line, Lands-line, StandsWanting-line}
+use Rattle.sour_machine.proofs.Advances.{IsReady-line, IsNamed-line, Lands-line, WantsMemory-line}
 use Rattle.sour_machine.proofs.CallLaws.{Crossed, Crossed-line, Stands-crossed, GoesOn-crossed, ReadsCrossing, ReadsCrossing-lines, turns-crossing}
 use Rattle.sour_machine.proofs.FrameLaws.{HasPlaces-standing}
 use Rattle.sour_machine.proofs.RunLaws.{OnErr-any}
@@ -112,7 +112,7 @@ returns-in_err-cross-clause-wants c =
     let same : new ≡ old = c.in_err-cross.ensures.err in
     OnErr-any c.from_residual-in_err-cross.result (
       ap (λ (moment : Moment). moment.end) same ∙ crossing.going,
-      StandsWanting-line program input old new line reads.at c.in_err-cross.ensures.wants same,
+      WantsMemory-line program input c.args.budget old new line reads.at (inr c.in_err-cross.ensures.wants) (λ turn. crossing.left) same,
     )
 
 pub returns-in_ok-cross-clause-goes_on : goal.returns-in_ok-cross-clause-goes_on

@@ -4,10 +4,13 @@ use Rattle.sour_syntax.specs.declared.jump.Jump.{Jump}
 use Rattle.sour_syntax.specs.BodyView.{BodyView}
 use Rattle.sour_syntax.specs.Scopes.{HasScopes, MentionsItsVariables}
 use Rattle.sour_syntax.specs.Spread.{following}
+use Rattle.sour_semantics.specs.Run.{TakesTurn}
 use Rattle.sour_machine.specs.declared.moment.Moment.{Moment}
 use Rattle.sour_machine.specs.Frame.{frame_lines}
 use Rattle.sour_machine.specs.Instruction.{AlwaysTakesTurn, StaysWithoutTurn}
-use Rattle.sour_machine.proofs.Advances.{Reads, Reads-lines, IsReady-line, GoesOn-act, StandsWanting-line, IsAtTurns-more, IsAtTurns-leaving, turns-always, turns-without, turns-grow, takes-crossing, before-always, before-without, Stands-act, has_memory-act, StandsCrossing-line}
+use Rattle.sour_machine.specs.Moment.{state_at}
+use Rattle.sour_machine.proofs.Advances.{Reads, Reads-lines, IsReady-line, GoesOn-act, turn-none, WantsMemory-line, IsAtTurns-more, IsAtTurns-leaving, turns-always, turns-without, turns-grow, takes-crossing, before-always, before-without, Stands-act, has_memory-act, StandsCrossing-line}
+use Rattle.sour_machine.proofs.Instructions.{inside-stays}
 use Rattle.sour_machine.proofs.RunLaws.{OnErr-any}
 use Rattle.sour_machine.proofs.Jumps.{length-GoTo}
 use Rattle.sour_machine.proofs.Measure.{before}
@@ -100,9 +103,16 @@ returns-in_err-act-clause-wants c =
     c.lines-lines.ensures.labels c.lines-lines.ensures.end c.jumps-jumps.ensures c.in-Cut.is stands in
     let new = c.act.new.moment in
     let same : new ≡ old = c.in_err-act.ensures.err in
+    let takes = c.in_err-act.ensures.wants in
+    let P : Type 0 = TakesTurn program (state_at program input old) → old.turns < c.args.budget in
+    let turn : P = elim c.else-takes_turn.branch as (λ _. P) [
+      | else-takes_turn-via-then-takes_turn+else-moment-budget w ↦ λ turn. omega arith
+      | else-takes_turn-via-else-takes_turn w ↦ λ turn.
+          absurd (turn-none program input old line reads.at (inside-stays line.instr old.frame.env old.heap takes) (when_false (AlwaysTakesTurn line.instr) (StaysWithoutTurn line.instr) w.if-takes_turn.false c.takes_turn.ensures) turn)
+    ] in
     OnErr-any c.from_residual.result (
       ap (λ (moment : Moment). moment.end) same ∙ c.in-Cut.is,
-      StandsWanting-line program input old new line reads.at c.in_err-act.ensures.wants same,
+      WantsMemory-line program input c.args.budget old new line reads.at (inl takes) turn same,
     )
 
 pub loop-moment-smaller : goal.loop-moment-smaller

@@ -17,7 +17,7 @@ returns-clause-stands c = λ program values runs begun.
     let top : c.push.new.top ≡ callee = c.in_ok-push.ensures.top in
     let taken : length values ≡ body.parameters = sym (length-map values Some) ∙ ap length (sym begun) ∙ c.requires.parameters in
     let env : c.extend_to.new.self ≡ first_environment body values =
-    first_environment-row body c.args.row c.extend_to.new.self values c.len.result c.in_ok-extend_to.ensures (c.len.ensures.value ∙ ap length c.variables.ensures) begun in
+    first_environment-row body c.args.row c.extend_to.new.self values c.len.result c.in_ok-extend_to.ensures.ok (c.len.ensures.value ∙ ap length c.variables.ensures) begun in
     let Stands : Activation → Type 0 = λ frame. StandsAtLine program frame None in
     let enters : Enters program c.args.x old new = record {
       below = c.in_ok-push.ensures.below;

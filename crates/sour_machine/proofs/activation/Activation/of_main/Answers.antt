@@ -13,4 +13,4 @@ returns-clause-stands c =
     let body : Some c.in-Some.body.now ≡ body_at program (text c.main.result 0) = c.in-Some.ensures in
     StandsAtLine-main program c.main.ensures.checked.main frame c.in-Some.body.now c.len.result (ap (λ main. text main 0) c.main.ensures.value) refl body
     (c.len.ensures.value ∙ ap length c.variables.ensures)
-    (c.in_ok-extend_to.ensures ∙ ap (λ (row : Environment). row ++ replicate (c.len.result - length row) None) c.new-env.ensures)
+    (c.in_ok-extend_to.ensures.ok ∙ ap (λ (row : Environment). row ++ replicate (c.len.result - length row) None) c.new-env.ensures)
