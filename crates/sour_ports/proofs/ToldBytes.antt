@@ -1,10 +1,10 @@
 -- Told bytes over several calls. For two calls each of the same kind see std's `Consumes-trans` and `Appends-trans`.
-use Rattle.std.proofs.Common.{◌≡◌, ℕ, ◌+◌, ◌-◌, ◌≤◌, List, [], ◌++◌, None, Some, Option, refl, sym, ap, ◌∙◌, subst, length, take, drop, take-append-drop, append-nil, arith}
+use Rattle.std.proofs.Common.{◌≡◌, ℕ, ◌+◌, ◌-◌, ◌≤◌, List, ◌++◌, None, Some, Option, refl, sym, ap, ◌∙◌, subst, length, take, drop, take-append-drop, arith}
 use Rattle.std.proofs.lemmas.List.{drop-drop, length-take-le, length-append, take_rest, take-take, take-append-le}
-use Rattle.std.proofs.Math.Seq.{drop-append_seam, take-add, take-append-add, take-length}
-use Rattle.std.proofs.KnownBytes.{Consumes-trans, Appends-trans, Appends-kept, Appends-nil}
-use Rattle.std.specs.Io.KnownBytes.{Consumes, Appends, Keeps}
-use Rattle.sour_ports.specs.Told.{GivesAll, LosesFirst, LosesAtMost, AppendsFront}
+use Rattle.std.proofs.Math.Seq.{drop-append_seam, take-add, take-append-add}
+use Rattle.std.proofs.KnownBytes.{Consumes-trans, Appends-trans}
+use Rattle.std.specs.Io.KnownBytes.{Consumes, Appends}
+use Rattle.sour_ports.specs.Told.{LosesFirst, LosesAtMost, AppendsFront}
 
 -- a piece of what is left of some bytes, as a slice from a place on
 pub take-left : (l : List ℕ) (at n : ℕ) → take n (take (length l - at) (drop at l)) ≡ take n (drop at l)
@@ -54,14 +54,6 @@ length-more bytes piece into new n grown same within =
 
 -- ---- a part of what is due
 
--- nothing of it
-pub AppendsFront-Keeps : (a b : Option (List ℕ)) (bytes : List ℕ) → Keeps a b → AppendsFront a b bytes
-AppendsFront-Keeps a b bytes kept = (0, omega arith, Appends-kept a a b [] (Appends-nil a) kept)
-
--- all of it
-pub AppendsFront-Appends : (a b : Option (List ℕ)) (bytes : List ℕ) → Appends a b bytes → AppendsFront a b bytes
-AppendsFront-Appends a b bytes all = (length bytes, omega arith, subst (Appends a b) (sym (take-length bytes)) all)
-
 -- a part of what is due behind bytes that were all appended
 pub AppendsFront-behind : (a b c : Option (List ℕ)) (bytes more : List ℕ) → Appends a b bytes → AppendsFront b c more → AppendsFront a c (bytes ++ more)
 AppendsFront-behind a b c bytes more first (count, within, next) =
@@ -71,31 +63,3 @@ AppendsFront-behind a b c bytes more first (count, within, next) =
 pub AppendsFront-longer : (a b : Option (List ℕ)) (bytes more : List ℕ) → AppendsFront a b bytes → AppendsFront a b (bytes ++ more)
 AppendsFront-longer a b bytes more (count, within, part) =
     (count, omega (arith, length-append bytes more), subst (Appends a b) (sym (take-append-le count bytes more within)) part)
-
--- ---- what is told after a call
-
--- bytes that came behind told ones are told
-pub told_after-Appends : (old bytes : List ℕ) (after : Option (List ℕ)) → Appends (Some old) after bytes → after ≡ Some (old ++ bytes)
-told_after-Appends old bytes None appended = absurd appended
-told_after-Appends old bytes (Some new) appended = ap Some appended
-
--- and so is what is left of told bytes
-pub told_after-Consumes : (all bytes : List ℕ) (after : Option (List ℕ)) → Consumes (Some all) after bytes → (all ≡ bytes ++ drop (length bytes) all) × (after ≡ Some (drop (length bytes) all))
-told_after-Consumes all bytes None taken = absurd taken
-told_after-Consumes all bytes (Some rest) taken =
-    let left : rest ≡ drop (length bytes) all = sym (ap (drop (length bytes)) taken ∙ drop-append_seam bytes rest) in
-    (taken ∙ ap (λ l. bytes ++ l) left, ap Some left)
-
-pub told_after-GivesAll : (all bytes : List ℕ) (after : Option (List ℕ)) → GivesAll (Some all) after bytes → (bytes ≡ all) × (after ≡ Some [])
-told_after-GivesAll all bytes None given = absurd given
-told_after-GivesAll all bytes (Some rest) given = (given.0, ap Some given.1)
-
-pub told_after-LosesFirst : (all : List ℕ) (count : ℕ) (after : Option (List ℕ)) → LosesFirst (Some all) after count → (count ≤ length all) × (after ≡ Some (drop count all))
-told_after-LosesFirst all count None lost = absurd lost
-told_after-LosesFirst all count (Some rest) lost = (lost.0, ap Some lost.1)
-
--- nothing appended is nothing changed
-pub Keeps-Appends : (a b : Option (List ℕ)) → Appends a b [] → Keeps a b
-Keeps-Appends None b none = tt
-Keeps-Appends (Some x) None none = absurd none
-Keeps-Appends (Some x) (Some y) none = none ∙ append-nil x

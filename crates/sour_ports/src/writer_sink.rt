@@ -1,6 +1,8 @@
 // A sink over std's writer.
 
-ghost use Rattle.std.specs.Prelude.{◌≡◌};
+ghost use Rattle.std.specs.Prelude.{◌≡◌, ◌<◌, ◌≤◌, length, take, OnOk, OnErr, IfOk};
+ghost use Rattle.std.specs.Io.KnownBytes.{Appends, Keeps};
+ghost use Rattle.sour_ports.specs.Cause.{HasCause, counted};
 
 use crate::fault::Failed;
 use crate::sink::Sink;
@@ -29,7 +31,19 @@ impl<W: Write> Sink for WriterSink<W> {
 
     ghost faults = { λ s. s.faults };
 
-    fn write(&mut self, from: &[u8]) -> Result<usize, Failed> {
+    fn write(&mut self, from: &[u8]) -> Result<usize, Failed>
+        // It counts a fault exactly where it answers one.
+        ensures sound { OnOk result (self.new.faults ≡ self.old.faults) }
+        ensures failed { OnErr result (self.new.faults ≡ counted self.old.faults) }
+
+        // As each sink.
+        ensures bound { IfOk result (λ n. n ≤ length from.now) }
+        ensures progress { IfOk result (λ n. 0 < length from.now → 0 < n) }
+        ensures appended { IfOk result (λ n. Appends (W.contents self.old.inner) (W.contents self.new.inner) (take n from.now)) }
+        ensures kept { OnErr result (Keeps (W.contents self.old.inner) (W.contents self.new.inner)) }
+        ensures cause { OnErr result (HasCause self.old.faults self.new.faults) }
+        ensures count { self.old.faults ≤ self.new.faults }
+    {
         match self.inner.write(from) {
             Ok(n) if n > 0 || from.is_empty() => Ok(n),
             _ => {
