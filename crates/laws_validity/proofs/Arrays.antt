@@ -12,7 +12,7 @@ use Rattle.sour_syntax.specs.declared.literal.Value.TheVariants.{Plain, Array}
 use Rattle.sour_syntax.specs.declared.literal.VarId.{VarId}
 use Rattle.sour_syntax.specs.declared.trap.Trap.TheVariants.{HeapFull, Bounds}
 use Rattle.sour_syntax.specs.Program.{ProgramView}
-use Rattle.sour_syntax.specs.Scopes.{scope_after, followers}
+use Rattle.sour_syntax.specs.Scopes.{scope_after, following_labels}
 use Rattle.sour_semantics.specs.State.{Heap, Frame, trapped, State}
 use Rattle.sour_semantics.specs.Step.{ends, goes_to, sets, cell_limit, count_heap, next_array, makes, makes_empty, writes_cell, writes_array, writes}
 use Rattle.sour_semantics.specs.Validity.{IsValid, scope_of}
@@ -26,7 +26,7 @@ use Rattle.laws_validity.proofs.States.{going, IsValid-trapped, IsValid-moved, I
 made : (program : ProgramView) (frame : Frame) (frames : List Frame) (s : State) (instr : Instr) (next : List ℕ) (x : VarId)
     (cells : List Value) (test : Bool) → ltb cell_limit (count_heap s.heap + length cells) ≡ test
     → IsValid program (going (frame ∷ frames) s) → StandsBefore program frame instr next
-    → Contains (followers instr next) next → set (scope_of frame.environment) x.0 true ≡ scope_after instr (scope_of frame.environment)
+    → Contains (following_labels instr next) next → set (scope_of frame.environment) x.0 true ≡ scope_after instr (scope_of frame.environment)
     → AllByRecursion (IsValueOf program s.heap) cells
     → IsValid program
     (cond test (ends (trapped HeapFull) (going (frame ∷ frames) s))
@@ -44,7 +44,7 @@ made program frame frames s instr next x cells false is valid at follows scope a
 -- an array of these values is made
 pub IsValid-makes : (program : ProgramView) (frame : Frame) (frames : List Frame) (s : State) (instr : Instr) (next : List ℕ) (x : VarId)
     (cells : List Value) → IsValid program (going (frame ∷ frames) s) → StandsBefore program frame instr next
-    → Contains (followers instr next) next → set (scope_of frame.environment) x.0 true ≡ scope_after instr (scope_of frame.environment)
+    → Contains (following_labels instr next) next → set (scope_of frame.environment) x.0 true ≡ scope_after instr (scope_of frame.environment)
     → AllByRecursion (IsValueOf program s.heap) cells → IsValid program (makes x cells next (going (frame ∷ frames) s))
 IsValid-makes program frame frames s instr next x cells valid at follows scope are =
     made program frame frames s instr next x cells (ltb cell_limit (count_heap s.heap + length cells)) refl valid at follows scope are
@@ -52,7 +52,7 @@ IsValid-makes program frame frames s instr next x cells valid at follows scope a
 -- an array of this length is made
 pub IsValid-makes_empty : (program : ProgramView) (frame : Frame) (frames : List Frame) (s : State) (instr : Instr) (next : List ℕ) (x : VarId)
     (count : Option ℤ) → IsValid program (going (frame ∷ frames) s) → StandsBefore program frame instr next
-    → Contains (followers instr next) next → set (scope_of frame.environment) x.0 true ≡ scope_after instr (scope_of frame.environment)
+    → Contains (following_labels instr next) next → set (scope_of frame.environment) x.0 true ≡ scope_after instr (scope_of frame.environment)
     → IsValid program (makes_empty x count next (going (frame ∷ frames) s))
 IsValid-makes_empty program frame frames s instr next x None valid at follows scope = IsValid-trapped program (frame ∷ frames) s _ valid
 IsValid-makes_empty program frame frames s instr next x (Some (negsuc n)) valid at follows scope =
@@ -65,7 +65,7 @@ IsValid-makes_empty program frame frames s instr next x (Some (pos count)) valid
 written : (program : ProgramView) (frame : Frame) (frames : List Frame) (s : State) (instr : Instr) (next : List ℕ) (a : ArrayId)
     (cells : List Value) (place : ℕ) (value : Value) (test : Bool)
     → IsValid program (going (frame ∷ frames) s) → StandsBefore program frame instr next
-    → Contains (followers instr next) next → scope_of frame.environment ≡ scope_after instr (scope_of frame.environment)
+    → Contains (following_labels instr next) next → scope_of frame.environment ≡ scope_after instr (scope_of frame.environment)
     → slice_get s.heap a.0 ≡ Some cells → IsValueOf program s.heap value
     → IsValid program
     (cond test (goes_to next (going (frame ∷ frames) (record s { heap = set s.heap a.0 (set cells place value) })))
@@ -85,7 +85,7 @@ written program frame frames s instr next a cells place value false valid at fol
 IsValid-writes_cell : (program : ProgramView) (frame : Frame) (frames : List Frame) (s : State) (instr : Instr) (next : List ℕ) (a : ArrayId)
     (cells : List Value) (index : ℤ) (value : Value)
     → IsValid program (going (frame ∷ frames) s) → StandsBefore program frame instr next
-    → Contains (followers instr next) next → scope_of frame.environment ≡ scope_after instr (scope_of frame.environment)
+    → Contains (following_labels instr next) next → scope_of frame.environment ≡ scope_after instr (scope_of frame.environment)
     → slice_get s.heap a.0 ≡ Some cells → IsValueOf program s.heap value
     → IsValid program (writes_cell a cells index value next (going (frame ∷ frames) s))
 IsValid-writes_cell program frame frames s instr next a cells (negsuc n) value valid at follows scope found is =
@@ -97,7 +97,7 @@ IsValid-writes_cell program frame frames s instr next a cells (pos place) value 
 IsValid-writes_array : (program : ProgramView) (frame : Frame) (frames : List Frame) (s : State) (instr : Instr) (next : List ℕ) (a : ArrayId)
     (found : Option (List Value)) (index : Option ℤ) (value : Value)
     → IsValid program (going (frame ∷ frames) s) → StandsBefore program frame instr next
-    → Contains (followers instr next) next → scope_of frame.environment ≡ scope_after instr (scope_of frame.environment)
+    → Contains (following_labels instr next) next → scope_of frame.environment ≡ scope_after instr (scope_of frame.environment)
     → slice_get s.heap a.0 ≡ found → IsValueOf program s.heap value
     → IsValid program (writes_array a found index value next (going (frame ∷ frames) s))
 IsValid-writes_array program frame frames s instr next a None index value valid at follows scope found is =
@@ -111,7 +111,7 @@ IsValid-writes_array program frame frames s instr next a (Some cells) (Some inde
 pub IsValid-writes : (program : ProgramView) (frame : Frame) (frames : List Frame) (s : State) (instr : Instr) (next : List ℕ)
     (array : Value) (index : Option ℤ) (value : Value)
     → IsValid program (going (frame ∷ frames) s) → StandsBefore program frame instr next
-    → Contains (followers instr next) next → scope_of frame.environment ≡ scope_after instr (scope_of frame.environment)
+    → Contains (following_labels instr next) next → scope_of frame.environment ≡ scope_after instr (scope_of frame.environment)
     → IsValueOf program s.heap value → IsValid program (writes array index value next (going (frame ∷ frames) s))
 IsValid-writes program frame frames s instr next (Plain literal) index value valid at follows scope is =
     IsValid-trapped program (frame ∷ frames) s _ valid

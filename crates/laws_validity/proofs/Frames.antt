@@ -13,7 +13,7 @@ use Rattle.sour_syntax.specs.Labels.{first_label}
 use Rattle.sour_syntax.specs.Exits.{continuations_of}
 use Rattle.sour_syntax.specs.Literals.{literals_of}
 use Rattle.sour_syntax.specs.Program.{ProgramView, IsProgram}
-use Rattle.sour_syntax.specs.Scopes.{Scope, mentioned, scope_after, followers, first_scope, scope_with, IsLineAt, HasScope, IsFine}
+use Rattle.sour_syntax.specs.Scopes.{Scope, mentioned, scope_after, following_labels, first_scope, scope_with, IsLineAt, HasScope, IsFine}
 use Rattle.sour_syntax.proofs.NoExits.{All-from_label}
 use Rattle.sour_syntax.proofs.ScopeLists.{length-HasScope}
 use Rattle.sour_semantics.specs.State.{Environment, Frame, FrameCode}
@@ -58,7 +58,7 @@ pub record StandsBefore (program : ProgramView) (frame : Frame) (instr : Instr) 
   pub leads : AllByRecursion (Leads program frame.code) (continuations_of instr)
   -- each variable that it mentions has its place
   pub places : AllByRecursion (λ x. x.0 < length frame.environment) (mentioned instr)
-  pub onward : (arrays : ℕ) (label : List ℕ) (environment : Environment) (waits : Option ℕ) → Contains (followers instr next) label
+  pub onward : (arrays : ℕ) (label : List ℕ) (environment : Environment) (waits : Option ℕ) → Contains (following_labels instr next) label
       → scope_with waits (scope_of environment) ≡ scope_after instr (scope_of frame.environment)
       → AllByRecursion (IsKept (length program.functions) arrays) environment
       → IfSome waits (λ x. x < length environment)
@@ -110,7 +110,7 @@ StandsBefore-frame program arrays frame line rest is valid free at =
 
 -- it goes to a label that may follow its instruction
 pub IsValidFrame-moved : (program : ProgramView) (arrays : ℕ) (frame : Frame) (instr : Instr) (next label : List ℕ)
-    (environment : Environment) → StandsBefore program frame instr next → Contains (followers instr next) label
+    (environment : Environment) → StandsBefore program frame instr next → Contains (following_labels instr next) label
     → scope_of environment ≡ scope_after instr (scope_of frame.environment)
     → AllByRecursion (IsKept (length program.functions) arrays) environment
     → IsValidFrame program arrays (moved frame label environment)

@@ -11,7 +11,7 @@ use Rattle.sour_syntax.specs.Body.{IsBody}
 use Rattle.sour_syntax.specs.BodyView.{BodyView}
 use Rattle.sour_syntax.specs.Jumps.{named_labels}
 use Rattle.sour_syntax.specs.Labels.{from_label, first_label, labels_of}
-use Rattle.sour_syntax.specs.Scopes.{Scope, followers, HasScope}
+use Rattle.sour_syntax.specs.Scopes.{Scope, following_labels, HasScope}
 use Rattle.sour_syntax.specs.Terminator.{IsTerminator, EndsInTerminator}
 use Rattle.sour_syntax.proofs.NoExits.{All-from_label}
 
@@ -73,7 +73,7 @@ one next label (zero, within, same) = sym same
 one next label (suc place, within, same) = absurd (omega (arith, within))
 
 -- what follows an instruction is the line behind it, where it is no terminator, or has a label that it names
-followed : (instr : Instr) (next label : List ℕ) → Contains (followers instr next) label
+followed : (instr : Instr) (next label : List ℕ) → Contains (following_labels instr next) label
     → ((IsTerminator instr → ⊥) × (label ≡ next)) ⊎ Contains (named_labels instr) label
 followed (Var x e) next label contains = inl ((λ none. none), one next label contains)
 followed (Drop x) next label contains = inl ((λ none. none), one next label contains)

@@ -13,7 +13,7 @@ use Rattle.sour_syntax.specs.declared.literal.VarId.{VarId}
 use Rattle.sour_syntax.specs.declared.trap.Trap.{Trap}
 use Rattle.sour_syntax.specs.declared.trap.Trap.TheVariants.{OutputFull}
 use Rattle.sour_syntax.specs.Program.{ProgramView}
-use Rattle.sour_syntax.specs.Scopes.{scope_after, followers}
+use Rattle.sour_syntax.specs.Scopes.{scope_after, following_labels}
 use Rattle.sour_semantics.specs.State.{Environment, Heap, Frame, trapped, State}
 use Rattle.sour_semantics.specs.Step.{ends, goes_to, sets, takes_turn, given, branches, reads, prints, output_limit, resumes, returns}
 use Rattle.sour_semantics.specs.Validity.{IsValidFrame, IsValidHeap, Waits, IsValid, scope_of}
@@ -82,7 +82,7 @@ IsValid-branches program frame frames s (Some false) first second valid a b =
 -- a variable gets a value, and the run goes to the next line
 pub IsValid-set : (program : ProgramView) (frame : Frame) (frames : List Frame) (s : State) (instr : Instr) (next : List ℕ) (x : VarId)
     (value : Value) → IsValid program (going (frame ∷ frames) s) → StandsBefore program frame instr next
-    → Contains (followers instr next) next → set (scope_of frame.environment) x.0 true ≡ scope_after instr (scope_of frame.environment)
+    → Contains (following_labels instr next) next → set (scope_of frame.environment) x.0 true ≡ scope_after instr (scope_of frame.environment)
     → IsValueOf program s.heap value → IsValid program (goes_to next (sets x value (going (frame ∷ frames) s)))
 IsValid-set program frame frames s instr next x value valid at follows scope is =
     let environment : Environment = set frame.environment x.0 (Some value) in

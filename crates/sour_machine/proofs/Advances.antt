@@ -12,7 +12,7 @@ use Rattle.sour_syntax.specs.BodyView.{BodyView}
 use Rattle.sour_syntax.specs.Exits.{continuations_of}
 use Rattle.sour_syntax.specs.Jumps.{GoesTo, GoTo}
 use Rattle.sour_syntax.specs.Labels.{LabelsDiffer, from_label, first_label, label_at}
-use Rattle.sour_syntax.specs.Scopes.{mentioned, followers, IsLineAt, HasScopes, MentionsItsVariables}
+use Rattle.sour_syntax.specs.Scopes.{mentioned, following_labels, IsLineAt, HasScopes, MentionsItsVariables}
 use Rattle.sour_syntax.specs.Spread.{following}
 use Rattle.sour_syntax.specs.Targets.{IsNamed, Lands}
 use Rattle.sour_syntax.specs.Terminator.{EndsInTerminator}
@@ -37,7 +37,7 @@ use Rattle.sour_machine.specs.Want.{TakesMemory, WantsMemory}
 use Rattle.sour_machine.proofs.Checked.{IsTextBody-runs, plain-anchor}
 use Rattle.sour_machine.proofs.Scopes.{All-at}
 use Rattle.sour_machine.proofs.FrameLaws.{frame_lines-are}
-use Rattle.sour_machine.proofs.Jumps.{GoesTo-at, Contains-followers, All-Contains, Contains-one}
+use Rattle.sour_machine.proofs.Jumps.{GoesTo-at, Contains-following_labels, All-Contains, Contains-one}
 use Rattle.sour_machine.proofs.Instructions.{turns_branch, turns_crossing, crossing-stays, turns-out}
 use Rattle.sour_machine.proofs.Measure.{before, before-turn, before-line}
 use Rattle.sour_machine.proofs.RunLaws.{entered-none, GoesOn-one, GoesOn-on}
@@ -322,7 +322,7 @@ StandsAtLine-act program old new line jump at goes stays further stands =
     let inside : next < length all =
     All-Contains (λ place. place < length all) (following line.instr jump (place + 1)) next (following_within all place line jump at.ends at.found goes) further.place in
     let Ends : List Line → Type 0 = λ lines. EndsInTerminator (drop next lines) in
-    let Follows : List Line → Type 0 = λ lines. Contains (followers line.instr (label_at lines (place + 1))) (label_at lines next) in
+    let Follows : List Line → Type 0 = λ lines. Contains (following_labels line.instr (label_at lines (place + 1))) (label_at lines next) in
     record {
       body = stands.body;
       runs = ap (λ code. body_at program (code_of code)) stays.code ∙ stands.runs;
@@ -335,7 +335,7 @@ StandsAtLine-act program old new line jump at goes stays further stands =
         drop (place + 1) stands.body.lines,
         stands.path,
         IsLineAt-body program old line stands.body stands.runs at,
-        subst Follows own (Contains-followers all line.instr jump place next goes further.place),
+        subst Follows own (Contains-following_labels all line.instr jump place next goes further.place),
         further.scope,
       );
       row = further.row ∙ stands.row;

@@ -12,7 +12,7 @@ use Rattle.sour_syntax.specs.declared.literal.VarId.{VarId}
 use Rattle.sour_syntax.specs.BodyView.{BodyView}
 use Rattle.sour_syntax.specs.Labels.{LabelsDiffer, label_at}
 use Rattle.sour_syntax.specs.Program.{ProgramView, IsProgram}
-use Rattle.sour_syntax.specs.Scopes.{followers, scope_after}
+use Rattle.sour_syntax.specs.Scopes.{following_labels, scope_after}
 use Rattle.sour_syntax.specs.Terminator.{IsTerminator, EndsInTerminator}
 use Rattle.sour_syntax.proofs.LabelPlaces.{EndsInTerminator-next}
 use Rattle.sour_semantics.specs.State.{State}
@@ -43,7 +43,7 @@ StandsWaiting-caller program old line x callee es is at there stands =
     let Ends : Instr → Type 0 = λ instr. IsTerminator instr → ⊥ in
     let goes_on : Ends line.instr = subst Ends (sym is) (λ no. no) in
     let Found : List Line → Type 0 = λ lines. slice_get lines place ≡ Some line in
-    let Follows : Instr → Type 0 = λ instr. Contains (followers instr (label_at lines (place + 1))) (label_at lines (place + 1)) in
+    let Follows : Instr → Type 0 = λ instr. Contains (following_labels instr (label_at lines (place + 1))) (label_at lines (place + 1)) in
     record {
       at_line = record {
         body = stands.body;

@@ -8,9 +8,9 @@ use Rattle.sour_syntax.specs.declared.literal.Literal.{Literal}
 use Rattle.sour_syntax.specs.Jumps.{GoesTo, GoTo}
 use Rattle.sour_syntax.specs.Labels.{label_at, IsPlaceOf}
 use Rattle.sour_syntax.specs.Program.{ProgramView}
-use Rattle.sour_syntax.specs.Scopes.{followers}
+use Rattle.sour_syntax.specs.Scopes.{following_labels}
 use Rattle.sour_syntax.specs.Spread.{following}
-use Rattle.sour_syntax.proofs.Following.{label_at-IsPlaceOf, followers_are}
+use Rattle.sour_syntax.proofs.Following.{label_at-IsPlaceOf, following_labels_are}
 use Rattle.sour_semantics.specs.Step.{goes_to}
 use Rattle.sour_machine.specs.declared.moment.Moment.{Moment}
 use Rattle.sour_machine.specs.Frame.{frame_lines}
@@ -48,11 +48,11 @@ Contains-map f (first ∷ xs) x (suc k, within, found) =
     (suc inner.0, omega (arith, inner.1), inner.2)
 
 -- where a run goes on, there is a label that may follow the instruction
-pub Contains-followers : (lines : List Line) (instr : Instr) (jump : Jump) (place next : ℕ) → GoesTo lines instr jump → Contains (following instr jump (place + 1)) next
-    → Contains (followers instr (label_at lines (place + 1))) (label_at lines next)
-Contains-followers lines instr jump place next goes at =
+pub Contains-following_labels : (lines : List Line) (instr : Instr) (jump : Jump) (place next : ℕ) → GoesTo lines instr jump → Contains (following instr jump (place + 1)) next
+    → Contains (following_labels instr (label_at lines (place + 1))) (label_at lines next)
+Contains-following_labels lines instr jump place next goes at =
     let Follows : List (List ℕ) → Type 0 = λ labels. Contains labels (label_at lines next) in
-    subst Follows (sym (followers_are lines instr jump (place + 1) goes)) (Contains-map (label_at lines) (following instr jump (place + 1)) next at)
+    subst Follows (sym (following_labels_are lines instr jump (place + 1) goes)) (Contains-map (label_at lines) (following instr jump (place + 1)) next at)
 
 -- what holds of each holds of one of them
 pub All-Contains : {X : Type 0} (P : X → Type 0) (xs : List X) (x : X) → AllByRecursion P xs → Contains xs x → P x

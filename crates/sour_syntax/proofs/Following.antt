@@ -11,7 +11,7 @@ use Rattle.sour_syntax.specs.declared.jump.Jump.{Jump}
 use Rattle.sour_syntax.specs.Labels.{LabelsDiffer, labels_of, first_label, label_at, from_label, IsPlaceOf}
 use Rattle.sour_syntax.specs.Terminator.{IsTerminator, EndsInTerminator}
 use Rattle.sour_syntax.specs.Jumps.{GoesTo}
-use Rattle.sour_syntax.specs.Scopes.{followers}
+use Rattle.sour_syntax.specs.Scopes.{following_labels}
 use Rattle.sour_syntax.specs.Spread.{following}
 use Rattle.sour_syntax.proofs.LabelPlaces.{from_label-first_label-drop}
 
@@ -35,24 +35,24 @@ same_place lines place other differ within other_within same =
     omega (arith, counts, length-drop place lines, length-drop other lines)
 
 -- the labels that may follow are those of the places that may follow
-pub followers_are : (lines : List Line) (instr : Instr) (jump : Jump) (next : ℕ) → GoesTo lines instr jump → followers instr (label_at lines next) ≡ map (label_at lines) (following instr jump next)
-followers_are lines (Var x e) jump next goes = refl
-followers_are lines (Drop x) jump next goes = refl
-followers_are lines (Assign x e) jump next goes = refl
-followers_are lines (ArrayLength x e) jump next goes = refl
-followers_are lines (ArrayList x es) jump next goes = refl
-followers_are lines (Store x i e) jump next goes = refl
-followers_are lines (Print e) jump next goes = refl
-followers_are lines (Read x) jump next goes = refl
-followers_are lines (Branch e a b) jump next goes =
+pub following_labels_are : (lines : List Line) (instr : Instr) (jump : Jump) (next : ℕ) → GoesTo lines instr jump → following_labels instr (label_at lines next) ≡ map (label_at lines) (following instr jump next)
+following_labels_are lines (Var x e) jump next goes = refl
+following_labels_are lines (Drop x) jump next goes = refl
+following_labels_are lines (Assign x e) jump next goes = refl
+following_labels_are lines (ArrayLength x e) jump next goes = refl
+following_labels_are lines (ArrayList x es) jump next goes = refl
+following_labels_are lines (Store x i e) jump next goes = refl
+following_labels_are lines (Print e) jump next goes = refl
+following_labels_are lines (Read x) jump next goes = refl
+following_labels_are lines (Branch e a b) jump next goes =
     let first : label_at lines jump.first ≡ a = label_at-IsPlaceOf lines a jump.first goes.0 in
     let second : label_at lines jump.second ≡ b = label_at-IsPlaceOf lines b jump.second goes.1 in cc
-followers_are lines (Goto a) jump next goes =
+following_labels_are lines (Goto a) jump next goes =
     let first : label_at lines jump.first ≡ a = label_at-IsPlaceOf lines a jump.first goes in cc
-followers_are lines (Call x callee es) jump next goes = refl
-followers_are lines (Return e) jump next goes = refl
-followers_are lines Stop jump next goes = refl
-followers_are lines (Assume es exit) jump next goes = refl
+following_labels_are lines (Call x callee es) jump next goes = refl
+following_labels_are lines (Return e) jump next goes = refl
+following_labels_are lines Stop jump next goes = refl
+following_labels_are lines (Assume es exit) jump next goes = refl
 
 -- behind a line that is no terminator there is a line
 pub next_within : (lines : List Line) (place : ℕ) (line : Line) → EndsInTerminator lines → slice_get lines place ≡ Some line → (IsTerminator line.instr → ⊥) → place + 1 < length lines

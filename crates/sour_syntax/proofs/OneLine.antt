@@ -10,7 +10,7 @@ use Rattle.sour_syntax.specs.declared.literal.FunId.{FunId}
 use Rattle.sour_syntax.specs.BodyView.{BodyView}
 use Rattle.sour_syntax.specs.Body.{IsBody}
 use Rattle.sour_syntax.specs.Labels.{first_label}
-use Rattle.sour_syntax.specs.Scopes.{Scope, followers, HasScope, IsFine}
+use Rattle.sour_syntax.specs.Scopes.{Scope, following_labels, HasScope, IsFine}
 
 abbrev returns : List ℕ → Literal → Line
 returns label literal = record { label = label; instr = Return (Plain (Lit literal)) }
@@ -28,7 +28,7 @@ no_path : (function : FunId) (variables : List (List ℕ)) (label : List ℕ) (l
     → HasScope (body_that_returns function variables label literal) (suc count) to scope → ⊥
 no_path function variables label literal count to scope (from, before, at, rest, has, stands, follow, after) =
     let same : returns label literal ≡ at = picked (bytes_eq label from) (returns label literal) at rest stands.stands in
-    let P : Line → Type 0 = λ line. Contains (followers line.instr (first_label rest)) to in
+    let P : Line → Type 0 = λ line. Contains (following_labels line.instr (first_label rest)) to in
     let none : P (returns label literal) = subst P (sym same) follow in
     absurd (omega (arith, none.1))
 

@@ -10,10 +10,10 @@ use Rattle.sour_syntax.specs.declared.scope_table.ScopeTable.{ScopeTable}
 use Rattle.sour_syntax.specs.BodyView.{BodyView}
 use Rattle.sour_syntax.specs.Labels.{LabelsDiffer, label_at, from_label, first_label}
 use Rattle.sour_syntax.specs.Jumps.{GoesTo}
-use Rattle.sour_syntax.specs.Scopes.{Scope, scope_after, followers, first_scope, IsLineAt, HasScope, IsFine, HasScopes}
+use Rattle.sour_syntax.specs.Scopes.{Scope, scope_after, following_labels, first_scope, IsLineAt, HasScope, IsFine, HasScopes}
 use Rattle.sour_syntax.specs.Spread.{Rows, following, IsAt, HasRow, Puts, GivesOver, GivesEach, Takes, HasPath, AreScopes}
 use Rattle.sour_syntax.proofs.LabelPlaces.{from_label-first_label-drop, drop-slice_get}
-use Rattle.sour_syntax.proofs.Following.{followers_are, same_place, all_behind, each_ahead, drop_first}
+use Rattle.sour_syntax.proofs.Following.{following_labels_are, same_place, all_behind, each_ahead, drop_first}
 
 -- how many places have no scope
 abbrev pub gaps : Rows → ℕ
@@ -83,7 +83,7 @@ pub record IsMet (body : BodyView) (rows : Rows) (label : List ℕ) (scope : Sco
 -- the line at the place may stand in this scope, and each label that may follow has the scope behind it
 pub record IsDone (body : BodyView) (rows : Rows) (place : ℕ) (scope : Scope) (line : Line) : Type 0 where
   pub fine : IsFine line.instr scope
-  pub spread : (label : List ℕ) → Contains (followers line.instr (label_at body.lines (place + 1))) label → IsMet body rows label (scope_after line.instr scope)
+  pub spread : (label : List ℕ) → Contains (following_labels line.instr (label_at body.lines (place + 1))) label → IsMet body rows label (scope_after line.instr scope)
 
 -- the place was reached, and where it is one of the first so many its line is done
 pub record IsReached (body : BodyView) (rows : Rows) (reached : List ℕ) (taken place : ℕ) (scope : Scope) : Type 0 where
@@ -237,7 +237,7 @@ module _ (body : BodyView) (differ : LabelsDiffer body.lines) (place : ℕ) (lin
       → AllByRecursion (λ other. HasPath body other (scope_after line.instr scope)) (following line.instr jump (place + 1))
   paths_on jump scope goes path =
       let after = scope_after line.instr scope in
-      let here : followers line.instr (label_at body.lines (place + 1)) ≡ map (label_at body.lines) (following line.instr jump (place + 1)) = followers_are body.lines line.instr jump (place + 1) goes in
+      let here : following_labels line.instr (label_at body.lines (place + 1)) ≡ map (label_at body.lines) (following line.instr jump (place + 1)) = following_labels_are body.lines line.instr jump (place + 1) goes in
       all_behind (label_at body.lines) (λ label. HasScope body (suc path.count) label after) (λ other. HasPath body other after) (following line.instr jump (place + 1))
       (λ label follows. (label_at body.lines place, scope, line, drop (place + 1) body.lines, path.path, stands, subst (λ (labels : List (List ℕ)). Contains labels label) (sym here) follows, refl))
       (λ other is. record { count = suc path.count; path = is })
@@ -248,7 +248,7 @@ module _ (body : BodyView) (differ : LabelsDiffer body.lines) (place : ℕ) (lin
   done_here jump scope rows goes fine given =
       let after = scope_after line.instr scope in
       let places = following line.instr jump (place + 1) in
-      let here : followers line.instr (label_at body.lines (place + 1)) ≡ map (label_at body.lines) places = followers_are body.lines line.instr jump (place + 1) goes in record {
+      let here : following_labels line.instr (label_at body.lines (place + 1)) ≡ map (label_at body.lines) places = following_labels_are body.lines line.instr jump (place + 1) goes in record {
         fine = fine;
         spread = λ label follows. each_ahead (label_at body.lines) (λ it. IsMet body rows it after) places (all_met rows after places given)
             label (subst (λ (labels : List (List ℕ)). Contains labels label) here follows);
@@ -379,7 +379,7 @@ module _ (body : BodyView) (differ : LabelsDiffer body.lines) (rows : Rows) (rea
       let met = followed count from before path in
       let here = line_met met.place before from line rest met.is met.at stands in
       let done = line_done met.place before line met.is here.0 in
-      subst (IsMet body rows label) (sym is) (done.spread label (subst (λ next. Contains (followers line.instr next) label) here.1 follows))
+      subst (IsMet body rows label) (sym is) (done.spread label (subst (λ next. Contains (following_labels line.instr next) label) here.1 follows))
 
   same_met : (label : List ℕ) (scope other : Scope) → IsMet body rows label scope → IsMet body rows label other → scope ≡ other
   same_met label scope other met also =

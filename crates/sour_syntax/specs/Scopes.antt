@@ -104,21 +104,21 @@ scope_after Stop scope = scope
 scope_after (Assume es exit) scope = scope
 
 -- the labels that may follow an instruction, where this one is that of the next line
-abbrev pub followers : Instr → List ℕ → List (List ℕ)
-followers (Var x e) next = next ∷ []
-followers (Drop x) next = next ∷ []
-followers (Assign x e) next = next ∷ []
-followers (ArrayLength x e) next = next ∷ []
-followers (ArrayList x es) next = next ∷ []
-followers (Store x index e) next = next ∷ []
-followers (Print e) next = next ∷ []
-followers (Read x) next = next ∷ []
-followers (Branch e a b) next = a ∷ b ∷ []
-followers (Goto a) next = a ∷ []
-followers (Call x callee es) next = next ∷ []
-followers (Return e) next = []
-followers Stop next = []
-followers (Assume es exit) next = next ∷ []
+abbrev pub following_labels : Instr → List ℕ → List (List ℕ)
+following_labels (Var x e) next = next ∷ []
+following_labels (Drop x) next = next ∷ []
+following_labels (Assign x e) next = next ∷ []
+following_labels (ArrayLength x e) next = next ∷ []
+following_labels (ArrayList x es) next = next ∷ []
+following_labels (Store x index e) next = next ∷ []
+following_labels (Print e) next = next ∷ []
+following_labels (Read x) next = next ∷ []
+following_labels (Branch e a b) next = a ∷ b ∷ []
+following_labels (Goto a) next = a ∷ []
+following_labels (Call x callee es) next = next ∷ []
+following_labels (Return e) next = []
+following_labels Stop next = []
+following_labels (Assume es exit) next = next ∷ []
 
 -- the scope at the first line: the parameters
 abbrev pub first_scope : BodyView → Scope
@@ -139,7 +139,7 @@ HasScope body zero label scope = (label ≡ first_label body.lines) × (scope �
 HasScope body (suc count) label scope =
     (from : List ℕ) × (before : Scope) × (line : Line) × (rest : List Line)
     × HasScope body count from before × IsLineAt body from line rest
-    × Contains (followers line.instr (first_label rest)) label × (scope ≡ scope_after line.instr before)
+    × Contains (following_labels line.instr (first_label rest)) label × (scope ≡ scope_after line.instr before)
 
 -- a variable is in a scope, or isn't
 abbrev pub IsInScope : Scope → VarId → Type 0

@@ -16,12 +16,15 @@ pub enum Literal {
     Number(i64),
     Truth(bool),
     Nil,
+    /// A reference to a function.
     Function(FunId),
 }
 
 /// What an expression evaluates to.
 #[derive(Clone, Copy, Debug, PartialEq, Eq)]
 pub enum Value {
+    /// A value that a text can spell.
     Plain(Literal),
+    /// A reference to an array of the run.
     Array(ArrayId),
 }

@@ -60,7 +60,7 @@ impl Model for Program {
     ghost view = { λ program. record { functions = program.functions; main = program.main } };
 
     ghost invariant = { λ program. IsProgram (record { functions = program.functions; main = program.main })
-      × IfSome program.exits (KeepsOfEach program.functions program.functions) };
+        × IfSome program.exits (KeepsOfEach program.functions program.functions) };
 }
 
 impl Program {
@@ -83,7 +83,9 @@ impl Program {
     {
         let exits = exit_places_of(alloc, self.functions.as_slice())?;
         let Program {
-            functions, main, ..
+            functions,
+            main,
+            ..
         } = self;
         Ok(Program {
             functions,

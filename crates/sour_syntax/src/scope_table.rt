@@ -13,11 +13,11 @@ use crate::instruction::{Instr, Line};
 use crate::jump::Jump;
 use crate::list::List;
 use crate::parts::Parts;
-use crate::scopes::{is_fine, pass};
+use crate::scopes::{change_scope, is_fine};
 use std::alloc::{AllocError, Global};
 
 /// The places that may follow an instruction, where `next` is that of the next line.
-fn followers(instr: &Instr, jump: Jump, next: usize) -> (Option<usize>, Option<usize>)
+fn following(instr: &Instr, jump: Jump, next: usize) -> (Option<usize>, Option<usize>)
     ensures { option_to_list result.0 ++ option_to_list result.1 ≡ following instr.now jump next }
 {
     match instr {
@@ -117,7 +117,7 @@ impl ScopeTable {
         requires { AllByRecursion (λ place. place < length self.old.rows.items) (following instr.now jump next) }
         ensures { IfOk result (λ has. GivesEach (following instr.now jump next) scope.now self.old has self.new) }
     {
-        let (first, second) = followers(instr, jump, next);
+        let (first, second) = following(instr, jump, next);
         if !self.give_if(alloc, first, scope)? {
             return Ok(false);
         }
@@ -150,7 +150,7 @@ impl ScopeTable {
         if !is_fine(&line.instr, scope.as_slice()) {
             return Ok(false);
         }
-        pass(&line.instr, &mut scope);
+        change_scope(&line.instr, &mut scope);
         self.spread(alloc, &line.instr, jump, place + 1, scope.as_slice())
     }
 }

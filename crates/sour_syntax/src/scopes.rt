@@ -137,8 +137,8 @@ fn put(x: VarId, is_in: bool, scope: &mut Vec<bool>)
     }
 }
 
-/// The scope behind an instruction.
-pub(crate) fn pass(instr: &Instr, scope: &mut Vec<bool>)
+/// Makes of the scope at an instruction the scope behind it.
+pub(crate) fn change_scope(instr: &Instr, scope: &mut Vec<bool>)
     ensures { scope.new.items ≡ scope_after instr.now scope.old.items }
 {
     match instr {

@@ -12,7 +12,7 @@ loop-function-preserved c =
     let index = c.loop-function.function-index in
     let places = c.in_ok-places.places in
     let more : c.push.new.self ≡ c.loop-function.rows ++ places ∷ [] = c.in_ok-push.ensures.ok in
-    let kept : KeepsOfFunction functions c.function-item.result places = 
+    let kept : KeepsOfFunction functions c.function-item.result places =
     subst (λ (versions : List Version). AllZip (KeepsOfVersion functions) versions places) c.as_slice.ensures c.in_ok-places.ensures in
     subst (λ (rows : List (List (List (List (Option ℕ))))). AllZip (KeepsOfFunction functions) (take (index + 1) c.args.functions.now) rows) (sym more)
     (zipped_next (KeepsOfFunction functions) c.args.functions.now c.loop-function.rows index c.function-item.result places c.loop-function-test.true c.function-item.is c.loop-function.invariant kept)

@@ -12,7 +12,7 @@ loop-version-preserved c =
     let index = c.loop-version.version-index in
     let places = c.in_ok-places.places in
     let more : c.push.new.self ≡ c.loop-version.rows ++ places ∷ [] = c.in_ok-push.ensures.ok in
-    let kept : KeepsOfVersion functions c.version-item.result places = 
+    let kept : KeepsOfVersion functions c.version-item.result places =
     subst (λ (lines : List Line). AllZip (KeepsOfLine functions) lines places) c.lines.ensures.value c.in_ok-places.ensures in
     subst (λ (rows : List (List (List (Option ℕ)))). AllZip (KeepsOfVersion functions) (take (index + 1) c.args.versions.now) rows) (sym more)
     (zipped_next (KeepsOfVersion functions) c.args.versions.now c.loop-version.rows index c.version-item.result places c.loop-version-test.true c.version-item.is c.loop-version.invariant kept)
