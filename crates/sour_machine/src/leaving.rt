@@ -207,7 +207,9 @@ fn replace_top(moment: &mut Moment, rows: &mut SpareRows, landed: Landed) -> Res
     ensures err { OnErr result (moment.new ≡ moment.old) }
 {
     let Landed { top, extras } = landed;
-    moment.below.append_reversed(extras.into_vec())?;
+    if extras.len() > 0 {
+        moment.below.append_reversed(extras.into_vec())?;
+    }
     let left = mem::replace(&mut moment.frame, top);
     rows.give(left.env);
     moment.turns += 1;

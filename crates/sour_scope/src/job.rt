@@ -58,8 +58,7 @@ pub fn check(alloc: Global, raw: RawJob) -> Result<Job, ScopeFault>
     if !inputs_are_known(inputs.as_slice(), outline.len()) {
         return Err(ScopeFault::Unplaced);
     }
-    let program = Program::of_functions(functions, main).linked(alloc)?;
-    let program = Arc::new(alloc, program)?;
+    let program = Arc::new(alloc, Program::of_functions(functions, main).linked(alloc)?)?;
     Ok(Job {
         program,
         plan,

@@ -1,6 +1,6 @@
-ghost use Rattle.std.specs.Prelude.{map};
+ghost use Rattle.std.specs.Prelude.{◌≡◌, ℕ, map};
 ghost use Rattle.std.specs.String.{string_bytes};
-ghost use Rattle.sourir.specs.Answer.{Serves};
+ghost use Rattle.sourir.specs.Answer.{AskForRun, Serves};
 
 use crate::budget::budget_of;
 use crate::fault::{Fault, write_fault};
@@ -26,7 +26,7 @@ pub fn sourir<S: Source, K: Sink>(
     source: &mut S,
     sink: &mut K,
 ) -> u8
-    ensures { Serves (map string_bytes words.now) (record {
+    ensures serves { Serves (map string_bytes words.now) (record {
       left = S.left source.old;
       faults_before = S.faults source.old;
       faults_after = S.faults source.new;
@@ -36,6 +36,9 @@ pub fn sourir<S: Source, K: Sink>(
       faults_before = K.faults sink.old;
       faults_after = K.faults sink.new;
     }) result }
+
+    // The words come first: where they ask for nothing that there is, the source isn't read.
+    ensures unread { ((budget : ℕ) → AskForRun (map string_bytes words.now) budget → ⊥) → source.new ≡ source.old }
 {
     match budget_of(words) {
         Some(budget) => command_run(alloc, source, sink, budget),

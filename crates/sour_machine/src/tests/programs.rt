@@ -89,7 +89,7 @@ fn program_of_body(alloc: Global, body: Body) -> Result<Arc<Program>, AllocError
     };
     let functions = List::from_vec(vec![in alloc; main]?);
     let program = Program::of_functions(functions, FunId(0));
-    Ok(Arc::new(alloc, program)?)
+    Ok(Arc::new(alloc, program.linked(alloc)?)?)
 }
 
 /// An assume of two literals, which leaves for the start.

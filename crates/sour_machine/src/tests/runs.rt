@@ -148,6 +148,15 @@ fn leaves_where_a_predicate_is_false(rt: HostRuntime) -> Result<(), Fail> {
     Ok(())
 }
 
+#[test]
+fn keeps_where_its_exits_lead(rt: HostRuntime) -> Result<(), Fail> {
+    let fails = Literal::Truth(false);
+    let program = assuming(rt.alloc(), fails, fails)?.expect(&rt, "a body");
+    assert_eq!(rt; program.exit_place(FunId(0), 0, 1, 0), Some(0));
+    assert_eq!(rt; program.exit_place(FunId(0), 0, 1, 1), None);
+    Ok(())
+}
+
 /// What a program that prints this value writes.
 fn printed(alloc: Global, value: Literal) -> Result<Option<List<u8>>, AllocError>
     requires { IsLiteral 1 value }
