@@ -59,10 +59,10 @@ pub(crate) enum Acted {
     Leaving,
 }
 
-/// Carries out one instruction of a run on this input, or none where memory is wanting, which only a print
-/// and a new array take. The jump has the places of the labels that the instruction names. Of an instruction
-/// that enters a frame or leaves one it says so, and does nothing. An assume whose predicates hold takes no
-/// turn.
+/// Carries out one instruction of a run on this input, or none where memory is wanting, as it may be only for
+/// a print and for a new array. The jump has the places of the labels that the instruction names. Of an
+/// instruction that enters a frame or leaves one it says so, and does nothing. An assume whose predicates hold
+/// takes no turn.
 ///
 /// Most instructions set a variable or jump. The functions of the others aren't inlined, so the loop stays
 /// small.
