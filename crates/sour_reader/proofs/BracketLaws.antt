@@ -19,13 +19,6 @@ neither_inside inside token opening closing =
     ap (λ test. cond test true (cond (bytes_eq token (codes "]")) false inside)) (tested token (codes "[") (bytes_eq token (codes "[")) refl opening)
     ∙ ap (λ test. cond test false inside) (tested token (codes "]") (bytes_eq token (codes "]")) refl closing)
 
--- `[` opens, and `]` closes
-pub opening_inside : (inside : Bool) (token : List ℕ) → token ≡ codes "[" → inside_behind inside token ≡ true
-opening_inside inside token is = ap (inside_behind inside) is
-
-pub closing_inside : (inside : Bool) (token : List ℕ) → token ≡ codes "]" → inside_behind inside token ≡ false
-closing_inside inside token is = ap (inside_behind inside) is
-
 -- what some tokens lead to, and others from there on
 pub leads_append : (before mid behind : Bool) (front back : List (List ℕ)) → LeadsTo before front mid → LeadsTo mid back behind → LeadsTo before (front ++ back) behind
 leads_append before mid behind [] back first second = subst (λ it. LeadsTo it back behind) (sym first) second

@@ -8,10 +8,6 @@ use Rattle.sour_reader.proofs.MentionLaws.{with_names_append, with_names_length}
 pub many_with : (names more : List (List ℕ)) → 1024 < length names → 1024 < length (with_names names more)
 many_with names more many = let grown = with_names_length names more in omega (arith, grown.0)
 
--- too many already
-pub both_many : (names more : List (List ℕ)) → 1024 < length names → AreOrBothMany names (with_names names more)
-both_many names more many = inr (many, many_with names more many)
-
 -- where they are no more than a version may have, they are those
 pub these_few : (names all : List (List ℕ)) → AreOrBothMany names all → length names ≤ 1024 → names ≡ all
 these_few names all (inl is) few = is

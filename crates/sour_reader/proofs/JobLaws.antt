@@ -14,11 +14,15 @@ use Rattle.sour_reader.specs.Inputs.{SpellsEachInput, inputs_heading, SpellsInpu
 use Rattle.sour_reader.specs.Limits.{HasShortInstrs, IsShortVersion, IsShortFunction, IsShortJob, IsShortInput, IsShort}
 use Rattle.sour_reader.specs.Job.{SpellsLines, SpellsVersion, SpellsVersions, SpellsFunction, SpellsFunctions, SpellsJob, Reads, parameters_spelling, version_heading, function_heading, function_end}
 use Rattle.sour_reader.specs.Ahead.{AheadView, AreLeft, ReadsAs, ReadsAsNone, OneLine, EachUpTo}
-use Rattle.sour_reader.specs.Front.{IsLine, BeginsVersionOrEnd, EndVersion, HasVersion, EndFunction, HasFunction, EndFunctions, HasFunctions, IsPlanJob, IsPlanHeading, NextIs, EndPlan, HasPlan, IsInput, EndText, HasInputs, HasOthers, HasJob}
+use Rattle.sour_reader.specs.Front.{IsLine, BeginsVersionOrEnd, EndVersion, HasVersion, EndFunction, HasFunction, EndFunctions, HasFunctions, IsPlanJob, IsPlanHeading, NextIs, EndPlan, HasPlan, IsInput, EndText, HasInputs, HasOthers}
 use Rattle.sour_reader.proofs.Readings.{left_at_end, reads_both}
 
 abbrev Lines : Type 0
 Lines = List (List (List ℕ))
+
+-- a whole job
+abbrev pub HasJob : RawJob → Lines → Lines → Type 0
+HasJob job lines after = (rest : Lines) × HasFunctions job.functions lines rest × HasOthers job.plan job.inputs rest after
 
 body_from : (body : List RawLine) (front after : Lines) → SpellsLines body front → HasShortInstrs body → EndVersion after → EachUpTo (OneLine IsLine) EndVersion body (front ++ after) after
 body_from [] [] after spelled short ended = (refl, ended)

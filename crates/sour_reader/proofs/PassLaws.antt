@@ -1,5 +1,5 @@
 -- What the words of a pass say, and how passes follow one another.
-use Rattle.std.proofs.Common.{◌≡◌, ◌≢◌, ◌↔◌, ℕ, true, false, List, [], ◌∷◌, ◌++◌, length, length-append, get_or, Option, Some, None, refl, sym, ap, ◌∙◌, subst, inl, inr, arith}
+use Rattle.std.proofs.Common.{◌≡◌, ◌↔◌, ℕ, true, false, List, [], ◌∷◌, ◌++◌, length, length-append, get_or, Option, Some, None, refl, sym, ap, ◌∙◌, subst, inl, inr, arith}
 use Rattle.std.specs.Prelude.{codes}
 use Rattle.std.specs.Option.{option_map}
 use Rattle.std.specs.Str.{bytes_eq}
@@ -175,12 +175,6 @@ point_is tokens behind anchor own first finds path predicate = (to, from)
         let begins = (first path behind).1 (path_is, refl) in
         (begins.0, behind, begins.1, begins.2, subst (λ it. SpellsPredicate it behind) (sym is) (found_holds (λ it. SpellsPredicate it behind) own finds))
 
--- a plain pass
-pub plain_found : (token word : List ℕ) (own : RawPass) → token ≡ word → SpellsPass own (word ∷ []) → ((pass : RawPass) → SpellsPass pass (word ∷ []) → pass ≡ own) → Finds (λ pass. SpellsPass pass (token ∷ [])) (Some own)
-plain_found token word own is spelled only =
-    finds_some (λ pass. SpellsPass pass (token ∷ [])) own (subst (λ it. SpellsPass own (it ∷ [])) (sym is) spelled)
-    (λ pass other. only pass (subst (λ it. SpellsPass pass (it ∷ [])) is other))
-
 head_is : (token word : List ℕ) (tokens others : List (List ℕ)) → token ∷ tokens ≡ word ∷ others → token ≡ word
 head_is token word tokens others is = cc
 
@@ -346,40 +340,6 @@ compose_found tokens found finds = finds_made (λ path. SpellsAnchor path tokens
 
     from : (pass : RawPass) → (anchor : List ℕ) × (pass ≡ Compose anchor) × SpellsAnchor anchor tokens → SpellsPass pass (codes "compose" ∷ tokens)
     from pass (anchor, is, spelled) = subst (λ it. SpellsPass it (codes "compose" ∷ tokens)) (sym is) (tokens, refl, spelled)
-
--- no other word begins a pass of more tokens than itself
-pub unknown_word : (token next : List ℕ) (tokens : List (List ℕ)) → token ≢ codes "inject" → token ≢ codes "inline" → token ≢ codes "move" → token ≢ codes "hoist" → token ≢ codes "compose" → Finds (λ pass. SpellsPass pass (token ∷ next ∷ tokens)) None
-unknown_word token next tokens no_inject no_inline no_move no_hoist no_compose = finds_none (λ pass. SpellsPass pass (token ∷ next ∷ tokens)) no
-  where
-    no : (pass : RawPass) → SpellsPass pass (token ∷ next ∷ tokens) → ⊥
-    no (Inject anchor predicate) (rest, is, point) = no_inject (head_is _ _ _ _ is)
-    no Constprop is = cc
-    no Unreachable is = cc
-    no (Inline call start) (path, is, spelled) = no_inline (head_is _ _ _ _ is)
-    no (Move anchor) (rest, is, spelled) = no_move (head_is _ _ _ _ is)
-    no (Hoist one other predicate) (front, back, is, anchor, point) = no_hoist (head_is _ _ _ _ is)
-    no (Compose anchor) (rest, is, spelled) = no_compose (head_is _ _ _ _ is)
-    no Prune is = cc
-
--- no word alone is a pass but these
-pub unknown_plain : (token : List ℕ) → token ≢ codes "constprop" → token ≢ codes "unreachable" → token ≢ codes "prune" → Finds (λ pass. SpellsPass pass (token ∷ [])) None
-unknown_plain token no_constprop no_unreachable no_prune = finds_none (λ pass. SpellsPass pass (token ∷ [])) no
-  where
-    no_last : (path : List (List ℕ)) (last : List ℕ) → [] ≡ path ++ last ∷ [] → ⊥
-    no_last [] last is = cc
-    no_last (first ∷ path) last is = cc
-
-    no : (pass : RawPass) → SpellsPass pass (token ∷ []) → ⊥
-    no (Inject anchor predicate) (rest, is, (front, back, whole, (more, at, path), spelled)) =
-        let none : [] ≡ codes "@" ∷ more ++ back = tail_is _ _ _ _ is ∙ whole ∙ ap (λ it. it ++ back) at in cc
-    no Constprop is = no_constprop (head_is _ _ _ _ is)
-    no Unreachable is = no_unreachable (head_is _ _ _ _ is)
-    no (Inline call start) (path, is, spelled) = no_last path (start_spelling start) (tail_is _ _ _ _ is)
-    no (Move anchor) (rest, is, (more, at, path)) = let none : [] ≡ codes "@" ∷ more = tail_is _ _ _ _ is ∙ at in cc
-    no (Hoist one other predicate) (front, back, is, (more, at, path), point) =
-        let none : [] ≡ codes "@" ∷ more ++ back = tail_is _ _ _ _ is ∙ ap (λ it. it ++ back) at in cc
-    no (Compose anchor) (rest, is, (more, at, path)) = let none : [] ≡ codes "@" ∷ more = tail_is _ _ _ _ is ∙ at in cc
-    no Prune is = no_prune (head_is _ _ _ _ is)
 
 -- the tokens of a pass, `;` and then the others
 pub pass_next : (front back : List (List ℕ)) (pass : RawPass) → HasNone (codes ";") front → Finds (λ it. SpellsPass it front) (Some pass) → ReadsOn (λ passes. SpellsSomePasses passes (front ++ codes ";" ∷ back)) (pass ∷ []) (λ passes. SpellsSomePasses passes back)

@@ -23,19 +23,6 @@ IsFirstPath tokens own behind = (path : List ℕ) (back : List (List ℕ)) → B
 abbrev pub NoPath : List (List ℕ) → Type 0
 NoPath tokens = (path : List ℕ) (back : List (List ℕ)) → BeginsPath path back tokens → ⊥
 
--- no token
-pub no_token_path : NoPath []
-no_token_path path back ([], is, (whole, are), ends) = are
-no_token_path path back (first ∷ front, is, (whole, are), ends) = cc
-
--- the first token is no label
-pub no_label_path : (token : List ℕ) (tokens : List (List ℕ)) → ((label : List ℕ) → ((token ≡ label) × IsLabel label) ↔ (None ≡ Some label)) → NoPath (token ∷ tokens)
-no_label_path token tokens none path back ([], is, (whole, are), ends) = are
-no_label_path token tokens none path back (first ∷ front, is, (whole, are), ends) =
-    let same : token ≡ first = cc in
-    let some = (none first).0 (same, are.0) in
-    cc
-
 -- the first token is one
 pub label_path : (token label : List ℕ) (tokens : List (List ℕ)) → token ≡ label → IsLabel label → ReadsPath (token ∷ tokens) label tokens
 label_path token label tokens same own path back = (to, from)
@@ -161,10 +148,6 @@ first_anchor_is tokens behind own rest is first path back = (
 pub no_first_anchor : (tokens behind : List (List ℕ)) → tokens ≡ codes "@" ∷ behind → NoPath behind → NoAnchor tokens
 no_first_anchor tokens behind is none path back begins = none path back ((anchor_path tokens behind is path back).0 begins)
 
--- no `@`
-pub no_at_anchor : (tokens : List (List ℕ)) → ((behind : List (List ℕ)) → tokens ≡ codes "@" ∷ behind → ⊥) → NoAnchor tokens
-no_at_anchor tokens none path back (front, whole, (rest, at, spelled), ends) = none (rest ++ back) (whole ∙ ap (λ it. it ++ back) at)
-
 -- the same of an anchor of all tokens
 pub anchor_found : (tokens behind : List (List ℕ)) (found : Option (List ℕ)) → tokens ≡ codes "@" ∷ behind → Finds (λ path. SpellsPath path behind) found → Finds (λ path. SpellsAnchor path tokens) found
 anchor_found tokens behind found is finds =
@@ -172,9 +155,6 @@ anchor_found tokens behind found is finds =
   where
     to : (path : List ℕ) → SpellsAnchor path tokens → SpellsPath path behind
     to path (rest, at, spelled) = let same : rest ≡ behind = cc in subst (SpellsPath path) same spelled
-
-pub no_at_found : (tokens : List (List ℕ)) → ((behind : List (List ℕ)) → tokens ≡ codes "@" ∷ behind → ⊥) → Finds (λ path. SpellsAnchor path tokens) None
-no_at_found tokens none = finds_none (λ path. SpellsAnchor path tokens) (λ path (rest, at, spelled). none rest at)
 
 -- a list of which it can't be that it goes on with the path doesn't
 pub ends_stable : (tokens : List (List ℕ)) → ((EndsPath tokens → ⊥) → ⊥) → EndsPath tokens

@@ -31,17 +31,6 @@ begins_once tokens name other start begun rest more one two =
     let others : rest ≡ more = cc in
     (names, start_same start begun words, others)
 
-pub no_job_start : (tokens : List (List ℕ)) → ((name : List ℕ) (start : Start) (rest : List (List ℕ)) → BeginsJob tokens name start rest → IsName name → ⊥) → Finds (λ job. SpellsPlanJob job tokens) None
-no_job_start tokens none = finds_none (λ job. SpellsPlanJob job tokens) (λ job (rest, is, named, passes). none job.function job.start rest is named)
-
-pub no_job_passes : (tokens : List (List ℕ)) (name : List ℕ) (start : Start) (rest : List (List ℕ)) → BeginsJob tokens name start rest → Finds (λ passes. SpellsPasses passes rest) None → Finds (λ job. SpellsPlanJob job tokens) None
-no_job_passes tokens name start rest begins none = finds_none (λ job. SpellsPlanJob job tokens) no
-  where
-    no : (job : RawPlanJob) → SpellsPlanJob job tokens → ⊥
-    no job (more, is, named, passes) =
-        let same = begins_once tokens job.function name job.start start more rest is begins in
-        none_found (λ it. SpellsPasses it rest) none job.passes (subst (SpellsPasses job.passes) same.2 passes)
-
 pub job_found : (tokens : List (List ℕ)) (name : List ℕ) (start : Start) (rest : List (List ℕ)) (passes : List RawPass) → BeginsJob tokens name start rest → IsName name → Finds (λ it. SpellsPasses it rest) (Some passes)
     → Finds (λ job. SpellsPlanJob job tokens) (Some (record { function = name; start = start; passes = passes }))
 job_found tokens name start rest passes begins named finds =

@@ -6,7 +6,6 @@ use Rattle.sour_reader.specs.declared.raw.RawVersion.{RawVersion}
 use Rattle.sour_reader.specs.declared.raw.RawFunction.{RawFunction}
 use Rattle.sour_reader.specs.declared.raw.RawPlanJob.{RawPlanJob}
 use Rattle.sour_reader.specs.declared.raw.RawInput.{RawInput}
-use Rattle.sour_reader.specs.declared.raw.RawJob.{RawJob}
 use Rattle.sour_reader.specs.declared.heading.FunctionHeading.{FunctionHeading}
 use Rattle.sour_reader.specs.Name.{IsName}
 use Rattle.sour_reader.specs.Mentions.{variables_of}
@@ -168,7 +167,3 @@ HasInputs inputs (heading ∷ lines) after = (heading ≡ inputs_heading) × Has
 -- what stands behind the functions: the plan, and then the inputs
 abbrev pub HasOthers : List RawPlanJob → List RawInput → List (List (List ℕ)) → List (List (List ℕ)) → Type 0
 HasOthers plan inputs lines after = (rest : List (List (List ℕ))) × HasPlan plan lines rest × HasInputs inputs rest after
-
--- a whole job
-abbrev pub HasJob : RawJob → List (List (List ℕ)) → List (List (List ℕ)) → Type 0
-HasJob job lines after = (rest : List (List (List ℕ))) × HasFunctions job.functions lines rest × HasOthers job.plan job.inputs rest after

@@ -4,4 +4,3 @@ pub mod LineLaws
 pub mod StepLaws
 pub mod ReadSoFar
 pub mod TextLaws
-pub mod KindLaws

@@ -1,5 +1,5 @@
 -- The tokens of a line are determined by its bytes.
-use Rattle.std.proofs.Common.{◌≡◌, ℕ, ◌<◌, true, List, [], ◌∷◌, ◌++◌, length, eqb, refl, sym, ap, ◌∙◌, subst, append_assoc, length-append, arith}
+use Rattle.std.proofs.Common.{◌≡◌, ℕ, true, List, [], ◌∷◌, ◌++◌, eqb, refl, sym, ap, ◌∙◌, subst, append_assoc}
 use Rattle.std.specs.Prelude.{◌↔◌}
 use Rattle.std.specs.List.{AllPass}
 use Rattle.std.proofs.lemmas.Bool.{false≢true}
@@ -64,16 +64,6 @@ reads_none none (t ∷ tokens) = (λ reads. absurd (token_or_none reads.1 none),
 pub reads_fault : (line : List ℕ) → (HasNoToken line → ⊥) → ((t a : List ℕ) → IsTokenThen line t a → ⊥) → (tokens : List (List ℕ)) → LineReads tokens line → ⊥
 reads_fault line not_none not_token [] reads = not_none reads
 reads_fault line not_none not_token (t ∷ tokens) (a, first, reads) = not_token t a first
-
--- what comes after the first token is shorter than the line
-pub after_shorter : {line t a : List ℕ} → IsTokenThen line t a → length a < length line
-after_shorter {line} {t} {a} first =
-    let nonempty = begins_length t (token_begins t first.is_token) in
-    omega (arith, nonempty, ap length first.whole, length-append first.blanks (t ++ a), length-append t a)
-  where
-    begins_length : (t : List ℕ) → BeginsToken t → 0 < length t
-    begins_length [] begins = absurd begins
-    begins_length (b ∷ t) begins = omega arith
 
 -- where no blank stands at the front, a comment does
 pub comment_at_front : (line : List ℕ) → Stops is_blank line → HasNoToken line → IsComment line

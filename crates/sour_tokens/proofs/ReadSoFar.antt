@@ -1,8 +1,8 @@
 -- A line, of which the first tokens have been read.
-use Rattle.std.proofs.Common.{◌≡◌, ℕ, List, [], ◌∷◌, ◌++◌, refl, sym, ap, ◌∙◌, subst, append_assoc}
+use Rattle.std.proofs.Common.{◌≡◌, ℕ, List, [], ◌∷◌, ◌++◌, refl, sym, ap, ◌∙◌, append_assoc}
 use Rattle.std.specs.Prelude.{◌↔◌, map, All}
 use Rattle.std.proofs.lemmas.List.{map_push, append-nil}
-use Rattle.std.proofs.lemmas.List.Elements.{All-nil, All-push}
+use Rattle.std.proofs.lemmas.List.Elements.{All-push}
 use Rattle.sour_tokens.specs.declared.tokens.Token.{Token}
 use Rattle.sour_tokens.specs.Token.{spelling, IsOfItsKind}
 use Rattle.sour_tokens.specs.Line.{HasNoToken, IsTokenThen, LineReads}
@@ -12,15 +12,6 @@ use Rattle.sour_tokens.proofs.LineLaws.{reads_token, reads_none, reads_fault}
 pub record ReadSoFar (line : List ℕ) (tokens : List Token) (rest : List ℕ) : Type 0 where
   pub line_is : (spellings : List (List ℕ)) → LineReads spellings line ↔ ((others : List (List ℕ)) × (spellings ≡ map spelling tokens ++ others) × LineReads others rest)
   pub kinds : All IsOfItsKind tokens
-
--- nothing has been read
-pub none_read : (line : List ℕ) (tokens : List Token) → tokens ≡ [] → ReadSoFar line tokens line
-none_read line tokens empty =
-    let P : List Token → Type 0 = λ ts. ReadSoFar line ts line in
-    subst P (sym empty) (record {
-      line_is = λ spellings. (λ reads. (spellings, refl, reads), λ (others, is, reads). let Q : List (List ℕ) → Type 0 = λ x. LineReads x line in subst Q (sym is) reads);
-      kinds = All-nil IsOfItsKind;
-    })
 
 module _ {line : List ℕ} {tokens : List Token} {rest : List ℕ} (sofar : ReadSoFar line tokens rest) where
   -- one token more
