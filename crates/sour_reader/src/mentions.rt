@@ -18,7 +18,7 @@ fn add_name(alloc: Global, name: &Label, names: &mut Names) -> Result<(), AllocE
     Ok(())
 }
 
-/// The same for the name in an operand.
+/// Puts the name in an operand, where it is one, behind the others where it isn't there yet.
 fn add_simple(alloc: Global, operand: &RawSimple, names: &mut Names) -> Result<(), AllocError>
     requires { length names.old < 2 ^ 32 }
     ensures { OnOk result (names.new ≡ with_names names.old (simple_names operand.now)) }
@@ -29,7 +29,7 @@ fn add_simple(alloc: Global, operand: &RawSimple, names: &mut Names) -> Result<(
     }
 }
 
-/// The same for the names in an expression.
+/// Puts each name in an expression behind the others where it isn't there yet.
 #[tactic(auto, using(crate::proofs::MentionLaws::with_names_append, crate::proofs::MentionLaws::with_names_length))]
 pub(crate) fn add_expr(alloc: Global, value: &RawExpr, names: &mut Names) -> Result<(), AllocError>
     requires { length names.old + 1 < 2 ^ 32 }
@@ -50,7 +50,8 @@ pub(crate) fn add_expr(alloc: Global, value: &RawExpr, names: &mut Names) -> Res
     }
 }
 
-/// The same for a variable and the names in the value that it is given.
+/// Puts a variable, and each name in the value that it is given, behind the others where it isn't there
+/// yet.
 #[tactic(auto, using(crate::proofs::MentionLaws::with_name_length))]
 fn add_setting(
     alloc: Global,
@@ -65,7 +66,7 @@ fn add_setting(
     add_expr(alloc, value, names)
 }
 
-/// The same for the names in some expressions.
+/// Puts each name in some expressions behind the others where it isn't there yet.
 pub(crate) fn add_each(
     alloc: Global,
     values: &List<RawExpr>,
@@ -80,7 +81,7 @@ pub(crate) fn add_each(
     Ok(())
 }
 
-/// The same for an array and the names in its elements.
+/// Puts an array, and each name in its elements, behind the others where it isn't there yet.
 fn add_array(
     alloc: Global,
     name: &Label,
@@ -94,7 +95,8 @@ fn add_array(
     add_each(alloc, elements, names)
 }
 
-/// The same for an array, an index and the names in the value that a cell is given.
+/// Puts an array, and each name in an index and in the value that a cell is given, behind the others
+/// where it isn't there yet.
 fn add_store(
     alloc: Global,
     name: &Label,
@@ -110,7 +112,8 @@ fn add_store(
     add_expr(alloc, value, names)
 }
 
-/// The same for the variable that a call sets, and the names in its callee and its arguments.
+/// Puts the variable that a call sets, and each name in its callee and its arguments, behind the others
+/// where it isn't there yet.
 fn add_call(
     alloc: Global,
     name: &Label,
@@ -126,8 +129,8 @@ fn add_call(
     add_each(alloc, arguments, names)
 }
 
-/// The same for the names of variables in an instruction. No more are put down once there are more than a
-/// version may have.
+/// Puts each name of a variable in an instruction behind the others where it isn't there yet. No more are
+/// put there once there are more than a version may have.
 pub(crate) fn add_instr(
     alloc: Global,
     instr: &RawInstr,
@@ -155,7 +158,7 @@ pub(crate) fn add_instr(
     }
 }
 
-/// The names of parameters.
+/// The names of parameters, each once.
 pub(crate) fn parameter_names(alloc: Global, parameters: &List<Label>) -> Result<Names, AllocError>
     requires { length parameters.now < 2 ^ 32 }
     ensures { IfOk result (λ names. names ≡ with_names [] parameters.now) }

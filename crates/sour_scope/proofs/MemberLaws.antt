@@ -1,9 +1,9 @@
 -- The marked variables in ascending order.
 use Rattle.std.proofs.Common.{◌≡◌, ◌+◌, ◌<◌, ◌≤◌, ℕ, zero, suc, true, false, List, [], ◌∷◌, ◌++◌, length, get_or, take, drop, refl, sym, ap, ◌∙◌, subst, arith}
-use Rattle.std.proofs.lemmas.List.{take_all, take_more}
+use Rattle.std.proofs.lemmas.List.{take_more}
 use Rattle.sour_syntax.specs.declared.literal.VarId.{VarId}
 use Rattle.sour_syntax.specs.Scopes.{Scope, members}
-use Rattle.sour_syntax.proofs.ScopeLists.{FoundSoFar, found_more, found_same, found_all, next_is}
+use Rattle.sour_syntax.proofs.ScopeLists.{FoundSoFar, found_more, found_same, next_is}
 
 -- the first of the members isn't before the first of the scope
 first_member : (start : ℕ) (scope : Scope) (x : VarId) (rest : List VarId) → members start scope ≡ x ∷ rest → start ≤ x.0
@@ -74,22 +74,3 @@ module _ (scope : Scope) (number : ℕ) (variables : List VarId) (found : ℕ) (
     so_far = found_same scope number (take found variables) below (next_is scope number false below is) so_far.so_far;
     within = so_far.within;
   }
-
--- where all are found and there are no further ones, these are the members
-pub members_all : (scope : Scope) (number : ℕ) (variables : List VarId) (found : ℕ) → length scope ≤ number → length variables ≤ found → MembersSoFar scope number variables found → variables ≡ members 0 scope
-members_all scope number variables found past end so_far =
-    sym (take_all found variables end) ∙ found_all scope number (take found variables) past so_far.so_far
-
--- where the first so many are all, there are so many
-taken_length : (variables : List VarId) (found : ℕ) → found ≤ length variables → length (take found variables) ≡ length variables → found ≡ length variables
-taken_length [] zero within same = refl
-taken_length [] (suc found) within same = absurd (omega arith)
-taken_length (x ∷ variables) zero within same = absurd (omega arith)
-taken_length (x ∷ variables) (suc found) within same = let inner = taken_length variables found (omega arith) (omega arith) in omega arith
-
--- and where these are the members, there are no further ones
-pub members_end : (scope : Scope) (number : ℕ) (variables : List VarId) (found : ℕ) → length scope ≤ number → MembersSoFar scope number variables found → variables ≡ members 0 scope → found ≡ length variables
-members_end scope number variables found past so_far are =
-    let taken : take found variables ≡ variables = found_all scope number (take found variables) past so_far.so_far ∙ sym are in
-    let counts : length (take found variables) ≡ length variables = ap length taken in
-    taken_length variables found so_far.within counts

@@ -30,7 +30,7 @@ fn extras_are_right(
     Ok(true)
 }
 
-/// Whether the frames of an exit are.
+/// Whether each frame of an exit is right, where a path leads to its line or none does.
 fn exit_is_right(
     alloc: Global,
     functions: &[Function],
@@ -46,7 +46,8 @@ fn exit_is_right(
     extras_are_right(alloc, functions, exit.extras.as_slice(), reached)
 }
 
-/// Whether the frames that an instruction may make are.
+/// Whether each frame that an instruction may make is right, where a path leads to its line or none
+/// does.
 fn instruction_is_right(
     alloc: Global,
     functions: &[Function],
@@ -73,7 +74,7 @@ fn instruction_is_right(
     }
 }
 
-/// Whether the exits of a body are.
+/// Whether each exit of a body leads where it may.
 fn body_is_right(alloc: Global, functions: &[Function], body: &Body) -> Result<bool, AllocError>
     ensures { IfOk result (λ right. IsTrue right ↔ HasExits functions.now [] body.now) }
 {
@@ -87,7 +88,7 @@ fn body_is_right(alloc: Global, functions: &[Function], body: &Body) -> Result<b
     Ok(true)
 }
 
-/// Whether the exits of some versions are.
+/// Whether each exit of some versions leads where it may.
 fn versions_are_right(
     alloc: Global,
     functions: &[Function],

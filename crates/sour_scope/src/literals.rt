@@ -20,7 +20,7 @@ pub(crate) fn literal_is_known(literal: Literal, functions: usize) -> bool
     }
 }
 
-/// Whether the literal of an operand is, where it is one.
+/// Whether an operand that is a literal is one of a program with so many functions.
 fn operand_is_known(operand: Simple, functions: usize) -> bool
     ensures { IsTrue result ↔ AllByRecursion (IsLiteral functions) (simple_literals operand) }
 {
@@ -30,7 +30,7 @@ fn operand_is_known(operand: Simple, functions: usize) -> bool
     }
 }
 
-/// Whether the literals of an expression are.
+/// Whether each literal in an expression is one of a program with so many functions.
 fn expression_is_known(e: &Expr, functions: usize) -> bool
     ensures { IsTrue result ↔ AllByRecursion (IsLiteral functions) (literals_of_expr e.now) }
 {
@@ -43,7 +43,7 @@ fn expression_is_known(e: &Expr, functions: usize) -> bool
     }
 }
 
-/// Whether the literals of some expressions are.
+/// Whether each literal in some expressions is one of a program with so many functions.
 fn expressions_are_known(es: &[Expr], functions: usize) -> bool
     ensures { IsTrue result ↔ AllByRecursion (IsLiteral functions) (literals_of_each es.now) }
 {
@@ -55,7 +55,7 @@ fn expressions_are_known(es: &[Expr], functions: usize) -> bool
     true
 }
 
-/// Whether the literals of the values in a map are.
+/// Whether each literal in the values of a map is one of a program with so many functions.
 fn map_is_known(binds: &[Bind], functions: usize) -> bool
     ensures { IsTrue result ↔ AllByRecursion (IsLiteral functions) (literals_of_each (bound_values binds.now)) }
 {
@@ -67,7 +67,7 @@ fn map_is_known(binds: &[Bind], functions: usize) -> bool
     true
 }
 
-/// Whether the literals of the values in the maps of further frames are.
+/// Whether each literal in the maps of further frames is one of a program with so many functions.
 fn extras_are_known(extras: &[Extra], functions: usize) -> bool
     ensures { IsTrue result ↔ AllByRecursion (IsLiteral functions) (literals_of_each (extras_values extras.now)) }
 {
@@ -79,7 +79,7 @@ fn extras_are_known(extras: &[Extra], functions: usize) -> bool
     true
 }
 
-/// Whether the literals of the values in the maps of an exit are.
+/// Whether each literal in the maps of an exit is one of a program with so many functions.
 fn exit_is_known(exit: &Exit, functions: usize) -> bool
     ensures { IsTrue result ↔ AllByRecursion (IsLiteral functions) (literals_of_each (exit_values exit.now)) }
 {
@@ -87,7 +87,7 @@ fn exit_is_known(exit: &Exit, functions: usize) -> bool
         && extras_are_known(exit.extras.as_slice(), functions)
 }
 
-/// Whether the literals of an instruction are.
+/// Whether each literal in an instruction is one of a program with so many functions.
 fn instruction_is_known(instr: &Instr, functions: usize) -> bool
     ensures { IsTrue result ↔ AllByRecursion (IsLiteral functions) (literals_of instr.now) }
 {
@@ -115,7 +115,7 @@ fn instruction_is_known(instr: &Instr, functions: usize) -> bool
     }
 }
 
-/// Whether the literals of some lines are.
+/// Whether each literal in some lines is one of a program with so many functions.
 pub(crate) fn lines_are_known(lines: &[Line], functions: usize) -> bool
     ensures { IsTrue result ↔ HasLiterals functions lines.now }
 {
@@ -127,7 +127,7 @@ pub(crate) fn lines_are_known(lines: &[Line], functions: usize) -> bool
     true
 }
 
-/// Whether the values of an input are.
+/// Whether each value of an input is one of a program with so many functions.
 fn values_are_known(values: &[Literal], functions: usize) -> bool
     ensures { IsTrue result ↔ AllByRecursion (IsLiteral functions) values.now }
 {
@@ -139,7 +139,7 @@ fn values_are_known(values: &[Literal], functions: usize) -> bool
     true
 }
 
-/// Whether the values of some inputs are.
+/// Whether each value of some inputs is one of a program with so many functions.
 pub(crate) fn inputs_are_known(inputs: &[List<Literal>], functions: usize) -> bool
     ensures { IsTrue result ↔ AllByRecursion (AllByRecursion (IsLiteral functions)) inputs.now }
 {

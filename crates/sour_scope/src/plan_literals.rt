@@ -8,7 +8,7 @@ ghost use Rattle.sour_syntax.specs.Plan.{side_literals, predicate_literals, IsKn
 use crate::literals::literal_is_known;
 use sour_syntax::{Pass, PlanJob, PlanPredicate, PlanSimple};
 
-/// Whether the literal of a side is known, where it is one.
+/// Whether a side that is a literal is one of a program with so many functions.
 fn side_is_known(side: &PlanSimple, functions: usize) -> bool
     ensures { IsTrue result ↔ AllByRecursion (IsLiteral functions) (side_literals side.now) }
 {
@@ -18,14 +18,14 @@ fn side_is_known(side: &PlanSimple, functions: usize) -> bool
     }
 }
 
-/// Whether the literals of a predicate are.
+/// Whether each literal in a predicate is one of a program with so many functions.
 fn predicate_is_known(predicate: &PlanPredicate, functions: usize) -> bool
     ensures { IsTrue result ↔ AllByRecursion (IsLiteral functions) (predicate_literals predicate.now) }
 {
     side_is_known(&predicate.left, functions) && side_is_known(&predicate.right, functions)
 }
 
-/// Whether the literals of a pass are.
+/// Whether each literal in a pass is one of a program with so many functions.
 fn pass_is_known(pass: &Pass, functions: usize) -> bool
     ensures { IsTrue result ↔ IsKnownPass functions pass.now }
 {
@@ -41,7 +41,7 @@ fn pass_is_known(pass: &Pass, functions: usize) -> bool
     }
 }
 
-/// Whether the literals of some passes are.
+/// Whether each literal in some passes is one of a program with so many functions.
 fn passes_are_known(passes: &[Pass], functions: usize) -> bool
     ensures { IsTrue result ↔ AllByRecursion (IsKnownPass functions) passes.now }
 {
@@ -53,14 +53,16 @@ fn passes_are_known(passes: &[Pass], functions: usize) -> bool
     true
 }
 
-/// Whether the function of a job is, and the literals of its passes.
+/// Whether the function of a job, and each literal in its passes, is one of a program with so many
+/// functions.
 fn job_is_known(job: &PlanJob, functions: usize) -> bool
     ensures { IsTrue result ↔ IsKnownJob functions job.now }
 {
     (job.function.0 as usize) < functions && passes_are_known(job.passes.as_slice(), functions)
 }
 
-/// Whether those of a plan are.
+/// Whether the function of each job of a plan, and each literal in its passes, is one of a program with
+/// so many functions.
 pub(crate) fn plan_is_known(plan: &[PlanJob], functions: usize) -> bool
     ensures { IsTrue result ↔ AllByRecursion (IsKnownJob functions) plan.now }
 {

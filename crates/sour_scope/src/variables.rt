@@ -18,7 +18,8 @@ fn put_simple(alloc: Global, raw: &RawSimple, names: &mut DistinctNames) -> Resu
     }
 }
 
-/// The same of the names in an expression, in the order in which they are written.
+/// Puts each name in an expression behind the others, where it isn't there yet, in the order in which
+/// they are written.
 fn put_expr(alloc: Global, raw: &RawExpr, names: &mut DistinctNames) -> Result<(), AllocError>
     ensures { OnOk result (names.new ≡ with_names names.old (expr_names raw.now)) }
 {
@@ -37,7 +38,7 @@ fn put_expr(alloc: Global, raw: &RawExpr, names: &mut DistinctNames) -> Result<(
     }
 }
 
-/// The same of some expressions.
+/// Puts each name in some expressions behind the others, where it isn't there yet.
 fn put_each(alloc: Global, raw: &[RawExpr], names: &mut DistinctNames) -> Result<(), AllocError>
     ensures { OnOk result (names.new ≡ with_names names.old (each_names raw.now)) }
 {
@@ -47,7 +48,7 @@ fn put_each(alloc: Global, raw: &[RawExpr], names: &mut DistinctNames) -> Result
     Ok(())
 }
 
-/// The same of the values in a map.
+/// Puts each name in the values of a map behind the others, where it isn't there yet.
 fn put_map(alloc: Global, raw: &[RawBind], names: &mut DistinctNames) -> Result<(), AllocError>
     ensures { OnOk result (names.new ≡ with_names names.old (map_names raw.now)) }
 {
@@ -57,7 +58,7 @@ fn put_map(alloc: Global, raw: &[RawBind], names: &mut DistinctNames) -> Result<
     Ok(())
 }
 
-/// The same of the maps of extras.
+/// Puts each name in the maps of further frames behind the others, where it isn't there yet.
 fn put_extras(alloc: Global, raw: &[RawExtra], names: &mut DistinctNames) -> Result<(), AllocError>
     ensures { OnOk result (names.new ≡ with_names names.old (all_names extra_names raw.now)) }
 {
@@ -67,7 +68,7 @@ fn put_extras(alloc: Global, raw: &[RawExtra], names: &mut DistinctNames) -> Res
     Ok(())
 }
 
-/// The same of an exit.
+/// Puts each name in the maps of an exit behind the others, where it isn't there yet.
 fn put_exit(alloc: Global, raw: &RawExit, names: &mut DistinctNames) -> Result<(), AllocError>
     ensures { OnOk result (names.new ≡ with_names names.old (exit_names raw.now)) }
 {
@@ -75,7 +76,8 @@ fn put_exit(alloc: Global, raw: &RawExit, names: &mut DistinctNames) -> Result<(
     put_extras(alloc, raw.extras.as_slice(), names)
 }
 
-/// The same of a variable and the expressions behind it.
+/// Puts the variable that a call sets, and each name in its callee and its arguments, behind the
+/// others, where it isn't there yet.
 fn put_call(
     alloc: Global,
     name: &Label,
@@ -90,7 +92,8 @@ fn put_call(
     put_each(alloc, arguments, names)
 }
 
-/// The same of a write into a cell of an array.
+/// Puts an array, and each name in the index and the value of a cell that is written, behind the others,
+/// where it isn't there yet.
 fn put_store(
     alloc: Global,
     name: &Label,
@@ -105,7 +108,8 @@ fn put_store(
     put_expr(alloc, value, names)
 }
 
-/// The same of a variable that gets the value of an expression.
+/// Puts a variable, and each name in the expression that it gets the value of, behind the others, where
+/// it isn't there yet.
 fn put_both(
     alloc: Global,
     name: &Label,
@@ -118,7 +122,7 @@ fn put_both(
     put_expr(alloc, value, names)
 }
 
-/// The same of an instruction.
+/// Puts each name of a variable in an instruction behind the others, where it isn't there yet.
 fn put_instr(alloc: Global, raw: &RawInstr, names: &mut DistinctNames) -> Result<(), AllocError>
     ensures { OnOk result (names.new ≡ with_names names.old (instr_names raw.now)) }
 {
@@ -148,7 +152,7 @@ fn put_instr(alloc: Global, raw: &RawInstr, names: &mut DistinctNames) -> Result
     }
 }
 
-/// The same of some lines.
+/// Puts each name of a variable in some lines behind the others, where it isn't there yet.
 fn put_lines(alloc: Global, raw: &[RawLine], names: &mut DistinctNames) -> Result<(), AllocError>
     ensures { OnOk result (names.new ≡ with_lines names.old raw.now) }
 {
