@@ -1,5 +1,5 @@
 -- What leaving by an exit makes.
-use Rattle.std.specs.Prelude.{◌≡◌, ◌+◌, ℕ, List, Option, None, Some, Result, Ok, Err, replicate, slice_get}
+use Rattle.std.specs.Prelude.{◌≡◌, ◌+◌, ℕ, List, None, Some, Result, Ok, Err, replicate, slice_get}
 use Rattle.sour_syntax.specs.declared.exit.Extra.{Extra}
 use Rattle.sour_syntax.specs.declared.exit.Target.{Target}
 use Rattle.sour_syntax.specs.declared.instruction.Instr.{Instr}
