@@ -63,7 +63,7 @@ returns-clause-found c =
     let planned : c.in_ok-plan.plan ≡ plan_of (function_names c.args.raw.functions) c.args.raw.plan =
     (rw c.as_slice-6.ensures at c.in_ok-plan.ensures)
     ∙ ap (λ names. plan_of names c.args.raw.plan) (c.names.ensures ∙ ap own_names outlined ∙ own_names-outline c.args.raw.functions) in
-    let made : c.in_ok-program.program.value ≡ record { functions = c.in-Some-2.functions; main = c.in-Some-main_of.main } = c.in_ok-program.ensures.ok ∙ c.of_functions.ensures in
+    let made : c.in_ok-program.program.value ≡ record { functions = c.in-Some-2.functions; main = c.in-Some-main_of.main } = c.in_ok-program.ensures.ok ∙ c.in_ok-linked.ensures ∙ c.of_functions.ensures in
     let counted : c.len.result ≡ length c.args.raw.functions = c.len.ensures ∙ ap length outlined ∙ length-map c.args.raw.functions names_in in
     let recounted : c.len-2.result ≡ length c.args.raw.functions = c.len-2.ensures ∙ ap length outlined ∙ length-map c.args.raw.functions names_in in
     rw made
@@ -77,7 +77,7 @@ returns-clause-found c =
 pub returns-clause-plan : goal.returns-clause-plan
 returns-clause-plan c =
     let outlined : c.in_ok-outline.outline ≡ outline c.args.raw.functions = rw c.as_slice-2.ensures at c.in_ok-outline.ensures in
-    let made : c.in_ok-program.program.value ≡ record { functions = c.in-Some-2.functions; main = c.in-Some-main_of.main } = c.in_ok-program.ensures.ok ∙ c.of_functions.ensures in
+    let made : c.in_ok-program.program.value ≡ record { functions = c.in-Some-2.functions; main = c.in-Some-main_of.main } = c.in_ok-program.ensures.ok ∙ c.in_ok-linked.ensures ∙ c.of_functions.ensures in
     let counted : c.len.result ≡ length c.args.raw.functions = c.len.ensures ∙ ap length outlined ∙ length-map c.args.raw.functions names_in in
     let many : length c.in-Some-2.functions ≡ length c.args.raw.functions =
     as_many c.in_ok-outline.outline c.args.raw.functions c.in-Some-2.functions (rw (c.in-Some-2.is, c.as_slice-3.ensures) at c.in_ok-functions.ensures.some) in
@@ -87,7 +87,7 @@ returns-clause-plan c =
 pub returns-clause-inputs : goal.returns-clause-inputs
 returns-clause-inputs c =
     let outlined : c.in_ok-outline.outline ≡ outline c.args.raw.functions = rw c.as_slice-2.ensures at c.in_ok-outline.ensures in
-    let made : c.in_ok-program.program.value ≡ record { functions = c.in-Some-2.functions; main = c.in-Some-main_of.main } = c.in_ok-program.ensures.ok ∙ c.of_functions.ensures in
+    let made : c.in_ok-program.program.value ≡ record { functions = c.in-Some-2.functions; main = c.in-Some-main_of.main } = c.in_ok-program.ensures.ok ∙ c.in_ok-linked.ensures ∙ c.of_functions.ensures in
     let counted : c.len-2.result ≡ length c.args.raw.functions = c.len-2.ensures ∙ ap length outlined ∙ length-map c.args.raw.functions names_in in
     let many : length c.in-Some-2.functions ≡ length c.args.raw.functions =
     as_many c.in_ok-outline.outline c.args.raw.functions c.in-Some-2.functions (rw (c.in-Some-2.is, c.as_slice-3.ensures) at c.in_ok-functions.ensures.some) in
