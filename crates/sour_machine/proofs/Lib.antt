@@ -13,5 +13,3 @@ mod Advances
 mod CallLaws
 mod LeavingLaws
 mod KeptPlaces
-mod MainLaws
-mod ExitLaws

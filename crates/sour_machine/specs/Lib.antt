@@ -10,5 +10,3 @@ pub mod Moment
 pub mod Instruction
 pub mod Want
 pub mod Landing
-pub mod MainLines
-pub mod MainExits

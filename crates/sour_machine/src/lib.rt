@@ -34,6 +34,3 @@ pub use landing::{LeaveStop, leave};
 pub use report::{End, Report};
 pub use run::{Advance, Run};
 pub use text::{value_head, value_middle, value_tail, value_text};
-
-#[cfg(test)]
-mod tests;

@@ -29,5 +29,3 @@ pub fn read_job(alloc: Global, bytes: &[u8]) -> Result<RawJob, TextFault>
     })
 }
 
-#[cfg(test)]
-mod tests;

@@ -35,5 +35,3 @@ mod versions;
 pub use fault::ScopeFault;
 pub use job::check;
 
-#[cfg(test)]
-mod tests;

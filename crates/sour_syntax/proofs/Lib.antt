@@ -10,7 +10,5 @@ pub mod GivesLaws
 pub mod SpreadLaws
 pub mod LastLine
 pub mod ScopeLists
-pub mod OneLine
 pub mod NoExits
-pub mod OneFunction
 pub mod AutomaticLabels

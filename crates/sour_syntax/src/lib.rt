@@ -24,8 +24,6 @@ mod scope_lists;
 mod scope_table;
 mod scopes;
 mod terminator;
-#[cfg(test)]
-mod tests;
 mod trap;
 
 pub use body::Body;

@@ -69,5 +69,3 @@ impl<'a> TokenLines<'a> {
     }
 }
 
-#[cfg(test)]
-mod tests;

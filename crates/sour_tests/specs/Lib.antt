@@ -1,0 +1,2 @@
+pub mod MainLines
+pub mod MainExits
