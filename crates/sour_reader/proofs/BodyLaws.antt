@@ -17,6 +17,7 @@ use Rattle.sour_reader.proofs.Readings.{next_is, left_some, Passes, GoesOn, Read
 use Rattle.sour_reader.proofs.Operands.{apart, no_reserved}
 use Rattle.sour_reader.proofs.MentionLaws.{with_names_length, with_lines_append, with_lines_length}
 
+-- lines, each by its tokens, and each token by its bytes
 abbrev Lines : Type 0
 Lines = List (List (List ℕ))
 
@@ -38,6 +39,7 @@ not_one T tokens next found same is spells other spelled = let some = (spells ot
 pub test_true : (B : List (List ℕ) → Type 0) (test : Bool) (tokens next : List (List ℕ)) → test ≡ true → IsTrue test ↔ B tokens → tokens ≡ next → B next
 test_true B test tokens next is tells same = subst B same (tells.0 is)
 
+-- where the test of the tokens of the next line isn't passed, what it tests isn't true of them
 pub test_false : (B : List (List ℕ) → Type 0) (test : Bool) (tokens next : List (List ℕ)) → test ≡ false → IsTrue test ↔ B tokens → tokens ≡ next → B next → ⊥
 test_false B test tokens next is tells same here = false≢true (sym is ∙ tells.1 (subst B (sym same) here))
 
@@ -46,6 +48,7 @@ pub next_ends : (B : List (List ℕ) → Type 0) (ahead : AheadView) → B ahead
 next_ends B ahead is some [] left = absurd (left_some ahead (λ none. some (subst B none is)) left)
 next_ends B ahead is some (line ∷ others) left = subst B (sym (next_is ahead line others left)) is
 
+-- where the next line is none of which B is true, the lines that are left aren't at the end
 pub next_goes_on : (B : List (List ℕ) → Type 0) (ahead : AheadView) → (B ahead.next → ⊥) → GoesOn (NextIs B) ahead
 next_goes_on B ahead other [] left ended = ended
 next_goes_on B ahead other (line ∷ others) left ended = other (subst B (next_is ahead line others left) ended)
@@ -76,10 +79,12 @@ no_instr (Return e) word tokens is known (value, whole, spelled) = other_word (c
 no_instr Stop word tokens is known whole = other_word (codes "stop") is (first_is _ _ _ _ whole) refl refl
 no_instr (Assume predicates exit) word tokens is known (each, back, whole, first, second) = other_word (codes "assume") is (first_is _ _ _ _ whole) refl refl
 
+-- `ver` and `end` are reserved words
 both_reserved : (word : List ℕ) → (word ≡ codes "ver") ⊎ (word ≡ codes "end") → is_reserved word ≡ true
 both_reserved word (inl is) = ap is_reserved is
 both_reserved word (inr is) = ap is_reserved is
 
+-- no instruction, with a label before it or without one, begins with `ver` or `end`
 no_labelled : (label : Option (List ℕ)) (instr : RawInstr) (tokens : List (List ℕ)) → BeginsVersionOrEnd tokens → SpellsLabelled label instr tokens → ⊥
 no_labelled label instr [] is spelled = is
 no_labelled None instr (word ∷ tokens) is spelled = no_instr instr word tokens is (both_reserved word is) spelled

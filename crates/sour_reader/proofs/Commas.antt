@@ -136,6 +136,7 @@ listed_some {X} S tokens found some finds = finds_as (λ es. SpellsSome S es tok
     same [] = ((λ is. absurd (some is)), λ spelled. absurd spelled)
     same (e ∷ es) = ((λ spelled. spelled), λ spelled. spelled)
 
+-- what is made of items is that of those before a place, that of the one there, and that of those behind
 parts_suc : {X : Type 0} (f : X → List ℕ) (own : List ℕ) (xs : List X) (place : ℕ) (d : X) → place < length xs → f (get_or xs place d) ≡ own → map f xs ≡ map f (take place xs) ++ own ∷ map f (drop (suc place) xs)
 parts_suc f own [] place d within is = absurd (omega arith)
 parts_suc f own (x ∷ xs) zero d within is = ap (λ it. it ∷ map f xs) is
@@ -154,6 +155,7 @@ pub none_made : {X Y : Type 0} (f : X → Y) (xs : List X) → true ≡ (length 
 none_made f [] test = refl
 none_made f (x ∷ xs) test = absurd (grind (arith, nat_tests))
 
+-- what is made of each of a list isn't empty where a test says that the list isn't
 pub some_made : {X Y : Type 0} (f : X → Y) (xs : List X) → false ≡ (length xs == 0) → ¬ (map f xs ≡ [])
 some_made f [] test is = absurd (grind (arith, nat_tests))
 some_made f (x ∷ xs) test is = cc

@@ -78,6 +78,7 @@ pub no_first_operand : (tokens front back : List (List ℕ)) → BeginsOperand t
 no_first_operand tokens front back begins split none =
     finds_none (λ e. SpellsExpr e tokens) (λ e spelled. let steps = expr_steps tokens front back begins split e spelled in none_found (λ it. SpellsSimple it front) none steps.0 steps.1)
 
+-- where an operand should come first and none can be split off, the tokens spell no expression
 pub no_operand_split : (tokens : List (List ℕ)) → BeginsOperand tokens → NoSplit tokens → Finds (λ e. SpellsExpr e tokens) None
 no_operand_split tokens begins none =
     finds_none (λ e. SpellsExpr e tokens) (λ e spelled. let parts = parts_of e tokens begins spelled in none parts.operand parts.left parts.right (parts.whole, parts.first))

@@ -11,6 +11,7 @@ use Rattle.sour_reader.proofs.Readings.{Passes, GoesOn, reads_both, reads_none_f
 use Rattle.sour_reader.proofs.BodyLaws.{first_is}
 use Rattle.sour_reader.proofs.Operands.{apart}
 
+-- lines as lists of tokens, and tokens as lists of bytes
 abbrev Lines : Type 0
 Lines = List (List (List ℕ))
 
@@ -26,20 +27,24 @@ whole_function old mid last new name parameters versions heading all ended passe
     (record { name = name; parameters = parameters }) versions (λ z. refl) (λ a b. refl) (λ a b. refl) heading
     (reads_before (HasVersions parameters) mid last new versions function_end all (sym ended) passes)
 
+-- where no heading of a function is read, no function is
 pub function_no_heading : (old : AheadView) → ReadsAsNone (OneLine IsFunctionHeading) old → ReadsAsNone HasFunction old
 function_no_heading old none =
     reads_none_first (OneLine IsFunctionHeading) ToEnd heading_of (λ (function : RawFunction). function.versions) old none
 
+-- no function is read where the lines behind its heading are read as no versions
 pub function_no_versions : (old mid : AheadView) (heading : FunctionHeading) → ReadsAs (OneLine IsFunctionHeading) old mid heading → ReadsAsNone (HasVersions heading.parameters) mid → ReadsAsNone HasFunction old
 function_no_versions old mid heading first none =
     reads_none_second (OneLine IsFunctionHeading) ToEnd heading_of (λ (function : RawFunction). function.versions) old mid heading first
     (λ versions lines after. none versions lines (function_end ∷ after))
 
+-- no function is read where no line is left behind its versions
 pub function_no_end : (old mid last : AheadView) (heading : FunctionHeading) (versions : List RawVersion) → ReadsAs (OneLine IsFunctionHeading) old mid heading → ReadsAs (HasVersions heading.parameters) mid last versions → ((line : List (List ℕ)) (others : Lines) → AreLeft last (line ∷ others) → ⊥) → ReadsAsNone HasFunction old
 function_no_end old mid last heading versions first all none =
     reads_none_second (OneLine IsFunctionHeading) ToEnd heading_of (λ (function : RawFunction). function.versions) old mid heading first
     (reads_none_before (HasVersions heading.parameters) mid last versions function_end all none)
 
+-- where B is true of the next tokens, or there are none, it is true of the first line, or there is none
 ends_from : (B : List (List ℕ) → Type 0) (next : List (List ℕ)) (rest : List ℕ) → NoneOr B next → (lines : Lines) → FollowNext next rest lines → EndOr B lines
 ends_from B next rest behind [] left = tt
 ends_from B [] rest behind (line ∷ others) left = absurd (let is : line ∷ others ≡ [] = left in cc)
@@ -49,6 +54,7 @@ ends_from B (token ∷ tokens) rest behind (line ∷ others) (those, is, has) = 
 pub lines_end : (B : List (List ℕ) → Type 0) (ahead : AheadView) → NoneOr B ahead.next → (lines : Lines) → AreLeft ahead lines → EndOr B lines
 lines_end B ahead behind lines left = ends_from B ahead.next ahead.rest behind lines left
 
+-- where there are next tokens and B isn't true of them, there is a first line, and B isn't true of it
 goes_from : (B : List (List ℕ) → Type 0) (next : List (List ℕ)) (rest : List ℕ) → (NoneOr B next → ⊥) → (lines : Lines) → FollowNext next rest lines → EndOr B lines → ⊥
 goes_from B [] rest other lines left ended = other tt
 goes_from B (token ∷ tokens) rest other [] (those, is, has) ended = cc
@@ -62,6 +68,7 @@ lines_go_on B ahead other lines left ended = goes_from B ahead.next ahead.rest o
 pub functions_end : (ahead : AheadView) → AreBehindFunctions ahead.next → (lines : Lines) → AreLeft ahead lines → EndFunctions lines
 functions_end ahead behind lines left = lines_end IsHeading ahead behind lines left
 
+-- the functions haven't ended where a line comes next that is no heading of the plan or the inputs
 pub functions_go_on : (ahead : AheadView) → (AreBehindFunctions ahead.next → ⊥) → GoesOn EndFunctions ahead
 functions_go_on ahead other lines left ended = lines_go_on IsHeading ahead other lines left ended
 

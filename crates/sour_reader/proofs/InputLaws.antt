@@ -6,6 +6,7 @@ use Rattle.sour_reader.specs.Ahead.{AheadView, AreLeft, ReadsAs, ReadsAsNone, On
 use Rattle.sour_reader.specs.Front.{IsInput, EndText, HasEachInput, HasInputs}
 use Rattle.sour_reader.proofs.Readings.{left_at_end, left_some, Passes, GoesOn, ReadSoFar, reads_with, so_far_end, so_far_nowhere, so_far_longer}
 
+-- a list of lines, each line by its tokens
 abbrev Lines : Type 0
 Lines = List (List (List ℕ))
 
@@ -14,9 +15,11 @@ pub record InputsSoFar (start now : AheadView) (front : List RawInput) : Type 0 
   pub read : ReadSoFar RawInput (OneLine IsInput) EndText start now front
   pub limit : length front ≤ 4096
 
+-- the inputs haven't ended where a line comes next
 pub inputs_go_on : (ahead : AheadView) → (ahead.next ≡ [] → ⊥) → GoesOn EndText ahead
 inputs_go_on ahead some lines left ended = left_some ahead some (subst (AreLeft ahead) ended left)
 
+-- no line of an input comes where the text has ended
 no_input_at_end : (input : RawInput) (lines after : Lines) → EndText lines → OneLine IsInput input lines after → ⊥
 no_input_at_end input lines after ended (tokens, is, spelled) = let none : tokens ∷ after ≡ [] = sym is ∙ ended in cc
 

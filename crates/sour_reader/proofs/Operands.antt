@@ -50,6 +50,7 @@ digits_no_sign token digits = (
   λ is. let no : IsDigits (codes "&") = subst IsDigits is digits in cc,
 )
 
+-- a word is neither `-` nor `&`
 word_no_sign : (token : List ℕ) → IsWord token → IsNoSign token
 word_no_sign token word = (
   (λ is. let no : IsWord (codes "-") = subst IsWord is word in cc),
@@ -178,6 +179,7 @@ colon_begins_none = record {
 no_word : (first word : List ℕ) (tokens : List (List ℕ)) → BeginsNoOperand first → first ∷ tokens ≡ word ∷ [] → IsWord word → ⊥
 no_word first word tokens none is own = let same : first ≡ word = cc in none.word (subst IsWord (sym same) own)
 
+-- no number begins with a token with which no operand begins
 no_number : (n : _) (first : List ℕ) (tokens : List (List ℕ)) → BeginsNoOperand first → SpellsNumber n (first ∷ tokens) → ⊥
 no_number n first [] none spelled = none.digits spelled.0
 no_number n first (digits ∷ []) none spelled = none.sign spelled.0

@@ -48,10 +48,12 @@ on_with rest [] back is are ends goes = absurd (goes (subst EndsPath (sym is) en
 on_with rest (slash ∷ []) back is are ends goes = absurd are
 on_with rest (slash ∷ part ∷ parts) back is are ends goes = (part, parts, ap (λ it. it ∷ part ∷ parts) are.0, are.1, are.2)
 
+-- a path doesn't end before tokens that begin with `/`
 slash_goes_on : (rest others : List (List ℕ)) → rest ≡ codes "/" ∷ others → EndsPath rest → ⊥
 slash_goes_on [] others is ends = cc
 slash_goes_on (token ∷ rest) others is ends = let same : token ≡ codes "/" = cc in ends same
 
+-- bytes are the same whether a sign and a part are joined to those before them or to those behind
 joined_part : (bytes slash part others : List ℕ) → bytes ++ (slash ++ (part ++ others)) ≡ ((bytes ++ slash) ++ part) ++ others
 joined_part bytes slash part others =
     sym (append_assoc bytes slash (part ++ others)) ∙ sym (append_assoc (bytes ++ slash) part others)
@@ -104,17 +106,21 @@ path_ends tokens bytes rest so_far ended path back = ((λ begins. to ((so_far pa
 whole_path : (path : List ℕ) (tokens : List (List ℕ)) → SpellsPath path tokens → BeginsPath path [] tokens
 whole_path path tokens spelled = (tokens, sym (append-nil tokens), spelled, tt)
 
+-- and a path with nothing behind it is one of all tokens
 path_whole : (path : List ℕ) (tokens : List (List ℕ)) → BeginsPath path [] tokens → SpellsPath path tokens
 path_whole path tokens (front, is, spelled, ends) = subst (SpellsPath path) (sym (is ∙ append-nil front)) spelled
 
+-- tokens that begin with no path spell none
 pub no_path_found : (tokens : List (List ℕ)) → NoPath tokens → Finds (λ path. SpellsPath path tokens) None
 no_path_found tokens none = finds_none (λ path. SpellsPath path tokens) (λ path spelled. none path [] (whole_path path tokens spelled))
 
+-- where nothing is behind the first path, the tokens spell this path and no other
 pub path_found : (tokens : List (List ℕ)) (own : List ℕ) (behind : List (List ℕ)) → IsFirstPath tokens own behind → behind ≡ [] → Finds (λ path. SpellsPath path tokens) (Some own)
 path_found tokens own behind first none =
     finds_some (λ path. SpellsPath path tokens) own (path_whole own tokens ((first own []).1 (refl, sym none)))
     (λ path spelled. ((first path []).0 (whole_path path tokens spelled)).0)
 
+-- where something is behind the first path, the tokens spell no path
 pub path_with_more : (tokens : List (List ℕ)) (own : List ℕ) (behind : List (List ℕ)) → IsFirstPath tokens own behind → (behind ≡ [] → ⊥) → Finds (λ path. SpellsPath path tokens) None
 path_with_more tokens own behind first some =
     finds_none (λ path. SpellsPath path tokens) (λ path spelled. some (sym ((first path []).0 (whole_path path tokens spelled)).1))
@@ -139,12 +145,14 @@ IsFirstAnchor tokens own behind = (path : List ℕ) (back : List (List ℕ)) →
 abbrev pub NoAnchor : List (List ℕ) → Type 0
 NoAnchor tokens = (path : List ℕ) (back : List (List ℕ)) → BeginsAnchor path back tokens → ⊥
 
+-- the first path behind `@` makes the first anchor, and the same tokens are behind it
 pub first_anchor_is : (tokens behind : List (List ℕ)) (own : List ℕ) (rest : List (List ℕ)) → tokens ≡ codes "@" ∷ behind → IsFirstPath behind own rest → IsFirstAnchor tokens own rest
 first_anchor_is tokens behind own rest is first path back = (
   (λ begins. (first path back).0 ((anchor_path tokens behind is path back).0 begins)),
   λ same. (anchor_path tokens behind is path back).1 ((first path back).1 same),
 )
 
+-- where no path comes behind `@`, the tokens begin with no anchor
 pub no_first_anchor : (tokens behind : List (List ℕ)) → tokens ≡ codes "@" ∷ behind → NoPath behind → NoAnchor tokens
 no_first_anchor tokens behind is none path back begins = none path back ((anchor_path tokens behind is path back).0 begins)
 

@@ -16,6 +16,7 @@ use Rattle.sour_reader.proofs.BodyLaws.{first_is, next_ends, next_goes_on}
 use Rattle.sour_reader.proofs.FunctionLaws.{lines_end, lines_go_on}
 use Rattle.sour_reader.proofs.PassLaws.{start_same}
 
+-- some lines, each of them the list of its tokens
 abbrev Lines : Type 0
 Lines = List (List (List ℕ))
 
@@ -31,6 +32,7 @@ begins_once tokens name other start begun rest more one two =
     let others : rest ≡ more = cc in
     (names, start_same start begun words, others)
 
+-- a line that begins as a job with a name, and then spells passes, spells the job of these and no other
 pub job_found : (tokens : List (List ℕ)) (name : List ℕ) (start : Start) (rest : List (List ℕ)) (passes : List RawPass) → BeginsJob tokens name start rest → IsName name → Finds (λ it. SpellsPasses it rest) (Some passes)
     → Finds (λ job. SpellsPlanJob job tokens) (Some (record { function = name; start = start; passes = passes }))
 job_found tokens name start rest passes begins named finds =
@@ -50,10 +52,12 @@ pub short_job_found : (tokens : List (List ℕ)) (job : RawPlanJob) → Finds (�
 short_job_found tokens job finds short =
     finds_some (λ it. IsPlanJob it tokens) job (found_holds (λ it. SpellsPlanJob it tokens) job finds, short) (λ other is. found_only (λ it. SpellsPlanJob it tokens) job other finds is.0)
 
+-- where a line spells a job of too many passes, no job is found in it
 pub long_job_found : (tokens : List (List ℕ)) (job : RawPlanJob) → Finds (λ it. SpellsPlanJob it tokens) (Some job) → ¬ (IsShortJob job) → Finds (λ it. IsPlanJob it tokens) None
 long_job_found tokens job finds long =
     finds_none (λ it. IsPlanJob it tokens) (λ other is. long (subst IsShortJob (found_only (λ it. SpellsPlanJob it tokens) job other finds is.0) is.1))
 
+-- and where a line spells no job at all, none of not too many passes is found either
 pub no_job_found : (tokens : List (List ℕ)) → Finds (λ it. SpellsPlanJob it tokens) None → Finds (λ it. IsPlanJob it tokens) None
 no_job_found tokens none = finds_none (λ it. IsPlanJob it tokens) (λ other is. none_found (λ it. SpellsPlanJob it tokens) none other is.0)
 
@@ -62,9 +66,11 @@ pub record JobsSoFar (start now : AheadView) (front : List RawPlanJob) : Type 0 
   pub read : ReadSoFar RawPlanJob (OneLine IsPlanJob) EndPlan start now front
   pub limit : length front ≤ 1024
 
+-- the plan hasn't ended where a line comes next that isn't the heading of the inputs
 pub jobs_go_on : (ahead : AheadView) → (AreBehindPlan ahead.next → ⊥) → GoesOn EndPlan ahead
 jobs_go_on ahead other lines left ended = lines_go_on IsInputsHeading ahead other lines left ended
 
+-- no line of a job comes where the plan has ended
 no_job_at_end : (job : RawPlanJob) (lines after : Lines) → EndPlan lines → OneLine IsPlanJob job lines after → ⊥
 no_job_at_end job [] after ended (tokens, is, spelled) = cc
 no_job_at_end job (first ∷ lines) after ended (tokens, is, ((rest, whole, named, passes), short)) =
@@ -88,6 +94,7 @@ pub no_job : (start now : AheadView) (front : List RawPlanJob) → JobsSoFar sta
 no_job start now front so_far other none jobs lines after left (each, few) =
     so_far_nowhere (OneLine IsPlanJob) EndPlan start now front so_far.read (jobs_go_on now other) none jobs lines after left each
 
+-- where the heading of the plan comes next, it is the first of the lines that are left
 begins_plan : (old : AheadView) → old.next ≡ plan_heading → (lines : Lines) → AreLeft old lines → NextIs IsPlanHeading lines
 begins_plan old heading lines left = next_ends IsPlanHeading old heading (λ is. cc) lines left
 

@@ -35,6 +35,7 @@ ArePlain tokens = AllByRecursion IsPlain tokens
 abbrev pub is_mark : List ℕ → Bool
 is_mark token = list_any (bytes_eq token) (codes "," ∷ codes "[" ∷ codes "]" ∷ codes "else" ∷ [])
 
+-- a token that isn't one of these marks differs from each of them
 unmarked : (token mark : List ℕ) → is_mark mark ≡ true → is_mark token ≡ false → token ≡ mark → ⊥
 unmarked token mark marked other is = false≢true (sym other ∙ ap is_mark is ∙ marked)
 
