@@ -17,6 +17,7 @@ use Rattle.sour_tokens.specs.Token.{IsDigits}
 digit_below : (b : ℕ) → is_ascii_digit b ≡ true → digit_value b < 10
 digit_below b digit = grind (arith, nat_tests)
 
+-- bytes that are all ASCII digits are decimal digits
 all_digits : (bytes : List ℕ) → AllPass is_ascii_digit bytes → AllDigits 10 bytes
 all_digits [] pass = tt
 all_digits (b ∷ bytes) pass =

@@ -82,6 +82,7 @@ record ExitReading (exit : RawExit) (tokens : List (List ℕ)) : Type 0 where
   binds : SpellsBinds exit.map inner
   extras : SpellsExtras exit.extras behind
 
+-- tokens that spell an exit split into those of its place, those inside its map, and those of its extras
 exit_reading : (exit : RawExit) (tokens : List (List ℕ)) → SpellsExit exit tokens → ExitReading exit tokens
 exit_reading exit tokens (place, own, extras, is, target, (inner, whole, binds), others) = record {
   place = place;
@@ -129,6 +130,7 @@ no_exit_parts tokens none = finds_none (λ exit. SpellsExit exit tokens) (λ exi
 abbrev pub extra_with : RawPlace → List ℕ → List RawBind → RawExtra
 extra_with target result binds = record { target = target; result = result; map = binds }
 
+-- an extra is one of these parts exactly where they spell its place, its variable and its map
 pub extra_parts : (place : List (List ℕ)) (name : List ℕ) (inner : List (List ℕ)) → MadeOfThree RawPlace (List ℕ) (List RawBind) RawExtra extra_with (λ it. SpellsPlace it place) (IsNameOf name) (λ it. SpellsBinds it inner) (IsExtraOf place name inner)
 extra_parts place name inner = record { to = to; from = from }
   where
@@ -146,6 +148,7 @@ record ExtraReading (extra : RawExtra) (tokens behind : List (List ℕ)) : Type 
   splits : SplitsExtra tokens place name inner behind
   own : IsExtraOf place name inner extra
 
+-- tokens that begin with a comma and an extra split into its place, its variable, its map and the rest
 extra_reading : (extra : RawExtra) (tokens first rest : List (List ℕ)) → tokens ≡ codes "," ∷ first ++ rest → SpellsExtra extra first → ExtraReading extra tokens rest
 extra_reading extra tokens first rest is (place, own, whole, target, named, (inner, mapped, binds)) = record {
   place = place;
@@ -264,6 +267,7 @@ map_drop f zero xs = refl
 map_drop f (suc n) [] = refl
 map_drop f (suc n) (x ∷ xs) = map_drop f n xs
 
+-- behind as many items as the first of two lists has, what is left of both is the second
 behind_front : {X : Type 0} (front back : List X) → drop (length front) (front ++ back) ≡ back
 behind_front [] back = refl
 behind_front (x ∷ front) back = behind_front front back

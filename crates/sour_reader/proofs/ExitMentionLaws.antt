@@ -30,6 +30,7 @@ both_append old mid new first second (inr (many, all)) next =
     own (inl so) = subst (λ it. 1024 < length it) (sym so) (many_with mid second many)
     own (inr (here, them)) = here
 
+-- the names of the items of two lists are those of the first, and then those of the second
 all_names_append : {X : Type 0} (F : X → List (List ℕ)) (first second : List X) → all_names F (first ++ second) ≡ all_names F first ++ all_names F second
 all_names_append F [] second = refl
 all_names_append F (x ∷ first) second = ap (λ it. F x ++ it) (all_names_append F first second) ∙ sym (append_assoc (F x) (all_names F first) (all_names F second))

@@ -7,6 +7,7 @@ use Rattle.sour_reader.proofs.BodyLaws.{first_is}
 use Rattle.sour_reader.proofs.Operands.{apart}
 use Rattle.sour_reader.proofs.Prefixes.{ReadsOn, reads_on_more, reads_on_end}
 
+-- lists of tokens that are the same go on with the same behind the first token
 others_are : (a b : List ℕ) (xs ys : List (List ℕ)) → a ∷ xs ≡ b ∷ ys → xs ≡ ys
 others_are a b xs ys is = cc
 
@@ -61,6 +62,7 @@ pub lists_some : (names tokens : List (List ℕ)) → (tokens ≡ codes ")" ∷ 
 lists_some [] tokens more lists = absurd (more lists.0)
 lists_some (name ∷ names) tokens more lists = (lists.0, lists.1)
 
+-- one name or more that the tokens list are their parameters, where they aren't too many
 from_some : (names tokens : List (List ℕ)) → ListsSome names tokens → length names ≤ 255 → ListsParameters names tokens
 from_some [] tokens lists few = absurd lists
 from_some (name ∷ names) tokens lists few = (lists.0, lists.1, few)
@@ -69,6 +71,7 @@ from_some (name ∷ names) tokens lists few = (lists.0, lists.1, few)
 abbrev pub AreParametersOf : List (List ℕ) → Option (List (List ℕ)) → Type 0
 AreParametersOf tokens found = (names : List (List ℕ)) → ListsParameters names tokens ↔ (found ≡ Some names)
 
+-- no parameters are found where the tokens list none, not even an empty list of them
 no_parameters : (tokens : List (List ℕ)) → ((names : List (List ℕ)) → ListsParameters names tokens → ⊥) → AreParametersOf tokens None
 no_parameters tokens none names = ((λ lists. absurd (none names lists)), λ is. cc)
 

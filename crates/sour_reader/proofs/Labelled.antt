@@ -39,6 +39,7 @@ no_colon_expr e first tokens is spelled =
 second_same : {a b c d : List ℕ} {others more : List (List ℕ)} → a ∷ c ∷ others ≡ b ∷ d ∷ more → d ≡ c
 second_same is = cc
 
+-- lists that are the same have the same behind the second item
 rest_same : {a b c d : List ℕ} {others more : List (List ℕ)} → a ∷ c ∷ others ≡ b ∷ d ∷ more → others ≡ more
 rest_same is = cc
 
@@ -47,6 +48,7 @@ no_colon_condition : (e : RawExpr) (value : List (List ℕ)) (first word a b : L
 no_colon_condition e [] first word a b tokens is spelled = no_empty_expr e spelled
 no_colon_condition e (token ∷ value) first word a b tokens is spelled = no_colon_expr e token value (second_same is) spelled
 
+-- where the second token is `:`, no value is behind the first
 no_colon_value : (e : RawExpr) (value : List (List ℕ)) (first word : List ℕ) (tokens : List (List ℕ)) → first ∷ codes ":" ∷ tokens ≡ word ∷ value → SpellsExpr e value → ⊥
 no_colon_value e [] first word tokens is spelled = no_empty_expr e spelled
 no_colon_value e (token ∷ value) first word tokens is spelled = no_colon_expr e token value (second_same is) spelled
@@ -58,6 +60,7 @@ no_colon_listed (e ∷ []) each first is spelled = no_colon_expr e first each is
 no_colon_listed (e ∷ other ∷ es) each first is ([], rest, whole, spelled, more) = no_empty_expr e spelled
 no_colon_listed (e ∷ other ∷ es) each first is (token ∷ front, rest, whole, spelled, more) = no_colon_expr e token front (sym (first_same whole) ∙ is) spelled
 
+-- where the second token is `:`, no list of predicates is between `assume` and `else`
 no_colon_each : (es : List RawExpr) (each back : List (List ℕ)) (first : List ℕ) (tokens : List (List ℕ)) → first ∷ codes ":" ∷ tokens ≡ codes "assume" ∷ each ++ codes "else" ∷ back → SpellsEach es each → ⊥
 no_colon_each es [] back first tokens is spelled = apart (codes "else") (codes ":") (second_same is) refl
 no_colon_each es (token ∷ each) back first tokens is spelled = no_colon_listed es each token (second_same is) spelled

@@ -14,9 +14,11 @@ use Rattle.sour_reader.specs.declared.raw.RawExpr.TheVariants.{Plain, Cell, Leng
 use Rattle.sour_reader.specs.declared.raw.RawLine.{RawLine}
 use Rattle.sour_reader.specs.Mentions.{simple_names, expr_names, each_names, instr_names, with_name, with_names, with_lines}
 
+-- one of two tests holds where the first does
 any_first : (test any : Bool) → test ≡ true → (test || any) ≡ true
 any_first test any is = rw is refl
 
+-- one of two tests holds where the second does
 any_later : (test any : Bool) → any ≡ true → (test || any) ≡ true
 any_later true any is = refl
 any_later false any is = is
@@ -29,6 +31,7 @@ any_at (first ∷ names) zero name at =
     any_first (bytes_eq name first) (list_any (bytes_eq name) names) ((bytes_eq-Decides name first).1 same)
 any_at (first ∷ names) (suc place) name at = any_later (bytes_eq name first) (list_any (bytes_eq name) names) (any_at names place name at)
 
+-- neither of two tests holds where the first can't and the second doesn't
 any_neither : (test any : Bool) → (test ≡ true → ⊥) → any ≡ false → (test || any) ≡ false
 any_neither true any other is = absurd (other refl)
 any_neither false any other is = is
@@ -52,10 +55,12 @@ with_name_length names name = by_test (list_any (bytes_eq name) names)
     by_test true = (omega arith, omega arith)
     by_test false = (omega (arith, length-append names (name ∷ [])), omega (arith, length-append names (name ∷ [])))
 
+-- to put the names of two lists behind others is to put those of the first, and then those of the second
 pub with_names_append : (names first second : List (List ℕ)) → with_names names (first ++ second) ≡ with_names (with_names names first) second
 with_names_append names [] second = refl
 with_names_append names (name ∷ first) second = with_names_append (with_name names name) first second
 
+-- to put names behind others makes those longer by at most as many, and never shorter
 pub with_names_length : (names more : List (List ℕ)) → (length names ≤ length (with_names names more)) × (length (with_names names more) ≤ length names + length more)
 with_names_length names [] = (omega arith, omega arith)
 with_names_length names (name ∷ more) =
@@ -63,6 +68,7 @@ with_names_length names (name ∷ more) =
     let others = with_names_length (with_name names name) more in
     (omega (arith, one.0, others.0), omega (arith, one.1, others.1))
 
+-- two lists of lines add the variables of the first, and then those of the second
 pub with_lines_append : (names : List (List ℕ)) (first second : List RawLine) → with_lines names (first ++ second) ≡ with_lines (with_lines names first) second
 with_lines_append names [] second = refl
 with_lines_append names (line ∷ first) second = with_lines_append (with_names names (instr_names line.instr)) first second
@@ -108,6 +114,7 @@ each_names_length (e ∷ es) =
     let others = each_names_length es in
     omega (arith, length-append (expr_names e) (each_names es))
 
+-- the names in two lists of expressions are those in the first, and then those in the second
 each_names_append : (first second : List RawExpr) → each_names (first ++ second) ≡ each_names first ++ each_names second
 each_names_append [] second = refl
 each_names_append (e ∷ first) second = ap (λ it. expr_names e ++ it) (each_names_append first second) ∙ sym (append_assoc (expr_names e) (each_names first) (each_names second))

@@ -35,6 +35,7 @@ slash_begins_none = record {
   reference = λ is. apart (codes "/") (codes "&") is refl;
 }
 
+-- `/` is no label
 no_slash_label : (token : List ℕ) → IsLabel token → token ≡ codes "/" → ⊥
 no_slash_label token label is = slash_begins_none.word (subst IsWord is (label_word token label))
 
@@ -55,9 +56,11 @@ anchor_ends : (path : List ℕ) (tokens others : List (List ℕ)) → SpellsAnch
 anchor_ends path tokens others (rest, is, spelled) =
     subst (λ it. EndsPath (it ++ others)) (sym is) (λ same. apart (codes "@") (codes "/") same refl)
 
+-- an anchor and the predicate behind it don't go on with a path before them
 point_ends : (path : List ℕ) (predicate : RawPredicate) (tokens : List (List ℕ)) → SpellsPoint path predicate tokens → EndsPath tokens
 point_ends path predicate tokens (front, back, is, anchor, spelled) = subst EndsPath (sym is) (anchor_ends path front back anchor)
 
+-- the first token of a path is a label
 first_label : (path word : List ℕ) (tokens others : List (List ℕ)) → tokens ≡ word ∷ others → SpellsPath path tokens → IsLabel word
 first_label path word tokens others is spelled = let are : ArePath (word ∷ others) = subst ArePath is spelled.1 in are.0
 
@@ -66,6 +69,7 @@ no_reserved_label : (word : List ℕ) → is_reserved word ≡ true → ((digits
 no_reserved_label word reserved other (inl name) = no_reserved word word refl reserved name
 no_reserved_label word reserved other (inr automatic) = other automatic.0 automatic.1
 
+-- a path spells no number
 number_no_path : (n : _) (path : List ℕ) (tokens : List (List ℕ)) → SpellsPath path tokens → SpellsNumber n tokens → ⊥
 number_no_path n path [] spelled number = number
 number_no_path n path (digits ∷ []) spelled number = digits_no_word digits number.0 (label_word digits spelled.1.0)
@@ -111,6 +115,7 @@ no_equal_predicate tokens none =
     finds_none (λ predicate. SpellsPredicate predicate tokens)
     (λ predicate (left, right, is, first, second). has_sign (codes "==") left right (subst (HasNone (codes "==")) is none))
 
+-- where a side of a predicate stands before a `==`, that is the first `==` of the tokens
 sides_are : (front back left right : List (List ℕ)) (side : RawPlanSimple) → HasNone (codes "==") front → front ++ codes "==" ∷ back ≡ left ++ codes "==" ∷ right → SpellsSide side left → (front ≡ left) × (back ≡ right)
 sides_are front back left right side none is spelled = first_sign (codes "==") front back left right none (no_equal side left spelled) is
 
@@ -123,6 +128,7 @@ no_left_predicate tokens front back whole none finds = finds_none (λ predicate.
         let same = sides_are front back left right predicate.left none (sym whole ∙ is) first in
         none_found (λ side. SpellsSide side front) finds predicate.left (subst (SpellsSide predicate.left) (sym same.0) first)
 
+-- behind a left side and the first `==`, the predicate is found with the right side, or neither is
 pub predicate_found : (tokens front back : List (List ℕ)) (left : RawPlanSimple) (found : Option RawPlanSimple) → tokens ≡ front ++ codes "==" ∷ back → HasNone (codes "==") front
     → Finds (λ side. SpellsSide side front) (Some left) → Finds (λ side. SpellsSide side back) found → Finds (λ predicate. SpellsPredicate predicate tokens) (option_map (λ right. record { left = left; right = right }) found)
 predicate_found tokens front back left found whole none one two =
@@ -151,17 +157,21 @@ IsPoint tokens anchor own = (path : List ℕ) (predicate : RawPredicate) → Spe
 abbrev pub NoPoint : List (List ℕ) → Type 0
 NoPoint tokens = (path : List ℕ) (predicate : RawPredicate) → SpellsPoint path predicate tokens → ⊥
 
+-- tokens that are an anchor and then a predicate begin with the anchor, up to that predicate
 begins_anchor : (path : List ℕ) (predicate : RawPredicate) (tokens front back : List (List ℕ)) → tokens ≡ front ++ back → SpellsAnchor path front → SpellsPredicate predicate back → BeginsAnchor path back tokens
 begins_anchor path predicate tokens front back is anchor spelled = (front, is, anchor, predicate_ends predicate back spelled)
 
+-- tokens that begin with no anchor aren't an anchor and a predicate
 pub no_anchor_point : (tokens : List (List ℕ)) → NoAnchor tokens → NoPoint tokens
 no_anchor_point tokens none path predicate (front, back, is, anchor, spelled) = none path back (begins_anchor path predicate tokens front back is anchor spelled)
 
+-- nor are tokens that begin with an anchor behind which no predicate is found
 pub no_predicate_point : (tokens behind : List (List ℕ)) (anchor : List ℕ) → IsFirstAnchor tokens anchor behind → Finds (λ predicate. SpellsPredicate predicate behind) None → NoPoint tokens
 no_predicate_point tokens behind own first finds path predicate (front, back, is, anchor, spelled) =
     let same = (first path back).0 (begins_anchor path predicate tokens front back is anchor spelled) in
     none_found (λ it. SpellsPredicate it behind) finds predicate (subst (SpellsPredicate predicate) same.1 spelled)
 
+-- the anchor at the front and the predicate behind it are what the tokens spell, and nothing else is
 pub point_is : (tokens behind : List (List ℕ)) (anchor : List ℕ) (own : RawPredicate) → IsFirstAnchor tokens anchor behind → Finds (λ predicate. SpellsPredicate predicate behind) (Some own) → IsPoint tokens anchor own
 point_is tokens behind anchor own first finds path predicate = (to, from)
   where
@@ -175,9 +185,11 @@ point_is tokens behind anchor own first finds path predicate = (to, from)
         let begins = (first path behind).1 (path_is, refl) in
         (begins.0, behind, begins.1, begins.2, subst (λ it. SpellsPredicate it behind) (sym is) (found_holds (λ it. SpellsPredicate it behind) own finds))
 
+-- lists of tokens that are the same have the same first token
 head_is : (token word : List ℕ) (tokens others : List (List ℕ)) → token ∷ tokens ≡ word ∷ others → token ≡ word
 head_is token word tokens others is = cc
 
+-- and the same tokens behind the first
 tail_is : (token word : List ℕ) (tokens others : List (List ℕ)) → token ∷ tokens ≡ word ∷ others → tokens ≡ others
 tail_is token word tokens others is = cc
 
@@ -196,6 +208,7 @@ no_empty_pass Prune is = cc
 other_word : {word : List ℕ} (one other : List ℕ) → word ≡ one → word ≡ other → bytes_eq one other ≡ false → ⊥
 other_word one other is same differ = apart one other (sym is ∙ same) differ
 
+-- a pass that begins with `inject` is one of an anchor and a predicate, which the tokens behind it spell
 as_inject : (tokens : List (List ℕ)) (pass : RawPass) → SpellsPass pass (codes "inject" ∷ tokens) → (anchor : List ℕ) × (predicate : RawPredicate) × (pass ≡ Inject anchor predicate) × SpellsPoint anchor predicate tokens
 as_inject tokens (Inject anchor predicate) (rest, is, point) = let same : rest ≡ tokens = cc in (anchor, predicate, refl, subst (SpellsPoint anchor predicate) same point)
 as_inject tokens Constprop is = absurd (other_word (codes "inject") (codes "constprop") refl (head_is _ _ _ _ is) refl)
@@ -206,6 +219,7 @@ as_inject tokens (Hoist from to predicate) (front, back, is, anchor, point) = ab
 as_inject tokens (Compose anchor) (rest, is, spelled) = absurd (other_word (codes "inject") (codes "compose") refl (head_is _ _ _ _ is) refl)
 as_inject tokens Prune is = absurd (other_word (codes "inject") (codes "prune") refl (head_is _ _ _ _ is) refl)
 
+-- `inject`, an anchor and a predicate spell the pass of these, and no other
 pub inject_found : (tokens : List (List ℕ)) (anchor : List ℕ) (predicate : RawPredicate) → IsPoint tokens anchor predicate → Finds (λ pass. SpellsPass pass (codes "inject" ∷ tokens)) (Some (Inject anchor predicate))
 inject_found tokens anchor predicate are =
     finds_some (λ pass. SpellsPass pass (codes "inject" ∷ tokens)) (Inject anchor predicate) (tokens, refl, (are anchor predicate).1 (refl, refl)) only
@@ -216,10 +230,12 @@ inject_found tokens anchor predicate are =
         let same = (are parts.0 parts.1).0 parts.3 in
         parts.2 ∙ ap (λ it. Inject it parts.1) same.0 ∙ ap (Inject anchor) same.1
 
+-- `inject` spells no pass where what is behind it isn't an anchor and a predicate
 pub no_inject : (tokens : List (List ℕ)) → NoPoint tokens → Finds (λ pass. SpellsPass pass (codes "inject" ∷ tokens)) None
 no_inject tokens none =
     finds_none (λ pass. SpellsPass pass (codes "inject" ∷ tokens)) (λ pass spelled. let parts = as_inject tokens pass spelled in none parts.0 parts.1 parts.3)
 
+-- a pass that begins with `hoist` is one of the two anchors and the predicate that come behind it
 as_hoist : (tokens : List (List ℕ)) (pass : RawPass) → SpellsPass pass (codes "hoist" ∷ tokens)
     → (from : List ℕ) × (to : List ℕ) × (predicate : RawPredicate) × (front : List (List ℕ)) × (back : List (List ℕ)) × (pass ≡ Hoist from to predicate) × (tokens ≡ front ++ back) × SpellsAnchor from front × SpellsPoint to predicate back
 as_hoist tokens (Hoist from to predicate) (front, back, is, anchor, point) = let same : tokens ≡ front ++ back = cc in (from, to, predicate, front, back, refl, same, anchor, point)
@@ -231,11 +247,13 @@ as_hoist tokens (Inject anchor predicate) (rest, is, point) = absurd (other_word
 as_hoist tokens (Compose anchor) (rest, is, spelled) = absurd (other_word (codes "hoist") (codes "compose") refl (head_is _ _ _ _ is) refl)
 as_hoist tokens Prune is = absurd (other_word (codes "hoist") (codes "prune") refl (head_is _ _ _ _ is) refl)
 
+-- `hoist` spells no pass where no anchor comes behind it
 pub no_hoist : (tokens : List (List ℕ)) → NoAnchor tokens → Finds (λ pass. SpellsPass pass (codes "hoist" ∷ tokens)) None
 no_hoist tokens none =
     finds_none (λ pass. SpellsPass pass (codes "hoist" ∷ tokens))
     (λ pass spelled. let parts = as_hoist tokens pass spelled in none parts.0 parts.4 (parts.3, parts.6, parts.7, point_ends parts.1 parts.2 parts.4 parts.8))
 
+-- nor where what is behind the first anchor isn't a second one and a predicate
 pub no_hoist_point : (tokens behind : List (List ℕ)) (from : List ℕ) → IsFirstAnchor tokens from behind → NoPoint behind → Finds (λ pass. SpellsPass pass (codes "hoist" ∷ tokens)) None
 no_hoist_point tokens behind from first none = finds_none (λ pass. SpellsPass pass (codes "hoist" ∷ tokens)) no
   where
@@ -245,6 +263,7 @@ no_hoist_point tokens behind from first none = finds_none (λ pass. SpellsPass p
         let same = (first parts.0 parts.4).0 (parts.3, parts.6, parts.7, point_ends parts.1 parts.2 parts.4 parts.8) in
         none parts.1 parts.2 (subst (SpellsPoint parts.1 parts.2) same.1 parts.8)
 
+-- `hoist`, two anchors and a predicate spell the pass of these, and no other
 pub hoist_found : (tokens behind : List (List ℕ)) (from to : List ℕ) (predicate : RawPredicate) → IsFirstAnchor tokens from behind → IsPoint behind to predicate → Finds (λ pass. SpellsPass pass (codes "hoist" ∷ tokens)) (Some (Hoist from to predicate))
 hoist_found tokens behind from to predicate first are =
     finds_some (λ pass. SpellsPass pass (codes "hoist" ∷ tokens)) (Hoist from to predicate) own only
@@ -268,6 +287,7 @@ start_same Text Active is = absurd (apart (codes "text") (codes "active") is ref
 start_same Active Text is = absurd (apart (codes "active") (codes "text") is refl)
 start_same Active Active is = refl
 
+-- lists that are the same have the same last item, and the same items before it
 last_same : {X : Type 0} (front other : List X) (x y : X) → front ++ x ∷ [] ≡ other ++ y ∷ [] → (front ≡ other) × (x ≡ y)
 last_same front other x y is =
     let count : length front ≡ length other = omega (arith, length-append front (x ∷ []), length-append other (y ∷ []), ap length is) in
@@ -276,6 +296,7 @@ last_same front other x y is =
     let last : x ≡ y = cc in
     (parts.0, last)
 
+-- a pass that begins with `inline` is one of a path and of the start whose word is behind the path
 as_inline : (tokens : List (List ℕ)) (pass : RawPass) → SpellsPass pass (codes "inline" ∷ tokens)
     → (call : List ℕ) × (start : Start) × (path : List (List ℕ)) × (pass ≡ Inline call start) × (tokens ≡ path ++ start_spelling start ∷ []) × SpellsPath call path
 as_inline tokens (Inline call start) (path, is, spelled) = let same : tokens ≡ path ++ start_spelling start ∷ [] = cc in (call, start, path, refl, same, spelled)
@@ -287,10 +308,12 @@ as_inline tokens (Hoist from to predicate) (front, back, is, anchor, point) = ab
 as_inline tokens (Compose anchor) (rest, is, spelled) = absurd (other_word (codes "inline") (codes "compose") refl (head_is _ _ _ _ is) refl)
 as_inline tokens Prune is = absurd (other_word (codes "inline") (codes "prune") refl (head_is _ _ _ _ is) refl)
 
+-- `inline` spells no pass where the tokens don't end with the word for a start
 pub no_inline_start : (tokens : List (List ℕ)) → ((front : List (List ℕ)) (start : Start) → tokens ≡ front ++ start_spelling start ∷ [] → ⊥) → Finds (λ pass. SpellsPass pass (codes "inline" ∷ tokens)) None
 no_inline_start tokens none =
     finds_none (λ pass. SpellsPass pass (codes "inline" ∷ tokens)) (λ pass spelled. let parts = as_inline tokens pass spelled in none parts.2 parts.1 parts.4)
 
+-- `inline` and the word for a start at the end spell the pass of the path between them, or none without it
 pub inline_found : (tokens front : List (List ℕ)) (start : Start) (found : Option (List ℕ)) → tokens ≡ front ++ start_spelling start ∷ [] → Finds (λ path. SpellsPath path front) found
     → Finds (λ pass. SpellsPass pass (codes "inline" ∷ tokens)) (option_map (λ call. Inline call start) found)
 inline_found tokens front start found whole finds =
@@ -381,6 +404,7 @@ last_pass tokens pass none finds passes = (to passes, from)
         let all : SpellsSomePasses (pass ∷ []) tokens = found_holds (λ it. SpellsPass it tokens) pass finds in
         subst (λ it. SpellsSomePasses it tokens) (sym is) all
 
+-- tokens without `;` that spell no pass spell no list of one pass or more
 no_last_pass : (tokens : List (List ℕ)) → HasNone (codes ";") tokens → Finds (λ it. SpellsPass it tokens) None → (passes : List RawPass) → SpellsSomePasses passes tokens → ⊥
 no_last_pass tokens none finds [] spelled = spelled
 no_last_pass tokens none finds (a ∷ []) spelled = none_found (λ it. SpellsPass it tokens) finds a spelled

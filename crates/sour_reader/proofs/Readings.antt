@@ -9,6 +9,7 @@ use Rattle.sour_tokens.specs.Text.{HasTokenLines}
 use Rattle.sour_reader.specs.Ahead.{AheadView, FollowNext, AreLeft, ReadsAs, ReadsAsNone, OneLine, EachUpTo}
 use Rattle.sour_reader.proofs.Prefixes.{ReadsOn, reads_on_none, reads_on_more, reads_on_end}
 
+-- lines of a text, each by its tokens, and each token by its bytes
 abbrev Lines : Type 0
 Lines = List (List (List ℕ))
 
@@ -46,6 +47,7 @@ pub goes_nowhere : (next : List (List ℕ)) (rest : List ℕ) → ((lines : Line
 goes_nowhere [] rest none line others is = cc
 goes_nowhere (token ∷ tokens) rest none line others (those, is, has) = none those has
 
+-- the first of the lines that follow is the one of the tokens that come next
 follows_is : (next : List (List ℕ)) (rest : List ℕ) (line : List (List ℕ)) (others : Lines) → FollowNext next rest (line ∷ others) → line ≡ next
 follows_is [] rest line others is = cc
 follows_is (token ∷ tokens) rest line others (those, is, has) = cc
@@ -54,6 +56,7 @@ follows_is (token ∷ tokens) rest line others (those, is, has) = cc
 pub next_is : (ahead : AheadView) (line : List (List ℕ)) (others : Lines) → AreLeft ahead (line ∷ others) → line ≡ ahead.next
 next_is ahead line others left = follows_is ahead.next ahead.rest line others left
 
+-- where no token comes next, only the empty list of lines follows
 follows_end : (next : List (List ℕ)) (rest : List ℕ) → next ≡ [] → (lines : Lines) → FollowNext next rest lines ↔ (lines ≡ [])
 follows_end [] rest is lines = ((λ none. none), λ none. none)
 follows_end (token ∷ tokens) rest is lines = absurd (let it : token ∷ tokens ≡ [] = is in cc)
@@ -62,6 +65,7 @@ follows_end (token ∷ tokens) rest is lines = absurd (let it : token ∷ tokens
 pub left_at_end : (ahead : AheadView) → ahead.next ≡ [] → (lines : Lines) → AreLeft ahead lines ↔ (lines ≡ [])
 left_at_end ahead is lines = follows_end ahead.next ahead.rest is lines
 
+-- where a token comes next, some line follows
 follows_some : (next : List (List ℕ)) (rest : List ℕ) → (next ≡ [] → ⊥) → FollowNext next rest [] → ⊥
 follows_some [] rest some none = some refl
 follows_some (token ∷ tokens) rest some (others, is, has) = cc
@@ -182,10 +186,12 @@ record SplitsEach (X : Type 0) (P : X → Lines → Lines → Type 0) (E : Lines
   one : P first lines rest
   more : EachUpTo P E others rest after
 
+-- what is read in turn has a first item, where the lines aren't at the end yet
 splits_each : {X : Type 0} (P : X → Lines → Lines → Type 0) (E : Lines → Type 0) (xs : List X) (lines after : Lines) → (E lines → ⊥) → EachUpTo P E xs lines after → SplitsEach X P E xs lines after
 splits_each P E [] lines after goes_on (is, ended) = absurd (goes_on ended)
 splits_each P E (x ∷ xs) lines after goes_on (rest, one, more) = record { first = x; others = xs; is = refl; rest = rest; one = one; more = more }
 
+-- before the end, the item that the lines are read as comes first, and then those from the lines behind
 next_each : {X : Type 0} (P : X → Lines → Lines → Type 0) (E : Lines → Type 0) (old new : AheadView) (x : X) → GoesOn E old → ReadsAs P old new x → (after : Lines)
     → ReadsOn (λ xs. (lines : Lines) × AreLeft old lines × EachUpTo P E xs lines after) (x ∷ []) (λ xs. (lines : Lines) × AreLeft new lines × EachUpTo P E xs lines after)
 next_each {X} P E old new x goes_on reads after xs = (to, from)
@@ -209,6 +215,7 @@ so_far_more P E start old new front x so_far goes_on reads = record {
       front x (so_far.exact after) (next_each P E old new x goes_on reads after);
 }
 
+-- at the end, where no item begins, exactly none is read, and the same lines are left
 no_more : {X : Type 0} (P : X → Lines → Lines → Type 0) (E : Lines → Type 0) (now : AheadView) → ((lines : Lines) → AreLeft now lines → E lines) → ((x : X) (lines after : Lines) → E lines → P x lines after → ⊥)
     → (after : Lines) (xs : List X) → ((lines : Lines) × AreLeft now lines × EachUpTo P E xs lines after) ↔ ((xs ≡ []) × AreLeft now after)
 no_more {X} P E now ended border after xs = (to xs, from)

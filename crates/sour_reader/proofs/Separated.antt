@@ -185,6 +185,7 @@ no_semicolon pass tokens spelled =
 pub no_equal : (side : RawPlanSimple) (tokens : List (List ℕ)) → SpellsSide side tokens → HasNone (codes "==") tokens
 no_equal side tokens spelled = side_none (codes "==") equal_separates side tokens spelled
 
+-- tokens with a sign at a place are those before the place, the sign, and those from the next place on
 sign_suc : {X : Type 0} (f : X → List ℕ) (sign : List ℕ) (xs : List X) (place : ℕ) (d : X) → place < length xs → f (get_or xs place d) ≡ sign → map f xs ≡ map f (take place xs) ++ sign ∷ map f (drop (suc place) xs)
 sign_suc f sign [] place d within is = absurd (omega arith)
 sign_suc f sign (x ∷ xs) zero d within is = ap (λ it. it ∷ map f xs) is

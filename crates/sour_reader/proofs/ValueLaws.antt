@@ -29,6 +29,7 @@ record FirstValue (values : List RawLiteral) (tokens : List (List ℕ)) : Type 0
   more : SpellsValues others rest
   count : operand_length tokens ≡ length front
 
+-- values that some tokens spell have a first one, of as many tokens as an operand that begins so
 first_value : (values : List RawLiteral) (tokens : List (List ℕ)) → 0 < length tokens → SpellsValues values tokens → FirstValue values tokens
 first_value [] tokens some spelled = absurd (omega (arith, ap length spelled))
 first_value (value ∷ values) tokens some (front, rest, whole, spelled, more) = record {
@@ -86,9 +87,11 @@ pub record ValuesSoFar (tokens : List (List ℕ)) (values : List RawLiteral) (re
 abbrev pub AreValuesOf : List (List ℕ) → Option (List RawLiteral) → Type 0
 AreValuesOf tokens found = (values : List RawLiteral) → (SpellsValues values tokens × (length values ≤ 65536)) ↔ (found ≡ Some values)
 
+-- at first no value was read, and all tokens are left
 pub values_so_far_none : (tokens : List (List ℕ)) → ValuesSoFar tokens [] tokens
 values_so_far_none tokens = record { limit = omega arith; exact = reads_on_none (λ all. SpellsValues all tokens) }
 
+-- no values are found where the tokens spell none, or only more than an input may have
 nothing : (tokens : List (List ℕ)) → ((values : List RawLiteral) → SpellsValues values tokens → length values ≤ 65536 → ⊥) → AreValuesOf tokens None
 nothing tokens none values = ((λ (spelled, limit). absurd (none values spelled limit)), λ is. cc)
 
@@ -132,6 +135,7 @@ whole_values tokens values rest so_far none all = (to, from)
 abbrev pub IsInputOf : List (List ℕ) → Option RawInput → Type 0
 IsInputOf tokens found = (input : RawInput) → IsInput input tokens ↔ (found ≡ Some input)
 
+-- the word `input` and the values found behind it are the input of these values, and no other
 pub input_behind : (word : List ℕ) (tokens : List (List ℕ)) (values : List RawLiteral) → word ≡ codes "input" → AreValuesOf tokens (Some values) → IsInputOf (word ∷ tokens) (Some (record { values = values }))
 input_behind word tokens values is are input = (to, from)
   where
@@ -155,12 +159,15 @@ input_behind word tokens values is are input = (to, from)
 abbrev pub IsFirst : List (List ℕ) → RawLiteral → List (List ℕ) → Type 0
 IsFirst tokens value rest = (values : List RawLiteral) → SpellsValues values tokens ↔ ((others : List RawLiteral) × (values ≡ value ∷ others) × SpellsValues others rest)
 
+-- where the tokens of the first operand spell a literal, that is the first value, before the others
 pub first_read : (tokens front rest : List (List ℕ)) (value : RawLiteral) → 0 < length tokens → tokens ≡ front ++ rest → length front ≡ operand_length tokens → IsLiteralOf front (Some value) → IsFirst tokens value rest
 first_read tokens front rest value some whole count spells = next_value tokens front rest value some whole count spells
 
+-- some tokens that are too few for their first operand spell no values
 pub first_short : (tokens : List (List ℕ)) → 0 < length tokens → length tokens < operand_length tokens → (values : List RawLiteral) → SpellsValues values tokens → ⊥
 first_short tokens some short values spelled = no_value_short tokens values some short spelled
 
+-- where the tokens of the first operand spell no literal, the whole spells no values
 pub first_other : (tokens front rest : List (List ℕ)) → 0 < length tokens → tokens ≡ front ++ rest → length front ≡ operand_length tokens → IsLiteralOf front None → (values : List RawLiteral) → SpellsValues values tokens → ⊥
 first_other tokens front rest some whole count spells values spelled = no_value tokens front rest values some whole count spells spelled
 
@@ -185,11 +192,13 @@ some_made f (x ∷ xs) some = omega arith
 pub drop_plus : {X : Type 0} (a b : ℕ) (xs : List X) → drop (a + b) xs ≡ drop b (drop a xs)
 drop_plus a b xs = sym (drop-drop b a xs)
 
+-- as many items are taken from a list as one asks for, where it has so many
 pub take_length : {X : Type 0} (n : ℕ) (xs : List X) → n ≤ length xs → length (take n xs) ≡ n
 take_length zero xs within = refl
 take_length (suc n) [] within = absurd (omega arith)
 take_length (suc n) (x ∷ xs) within = ap suc (take_length n xs (omega arith))
 
+-- nothing is left of a list from its end on
 pub drop_all : {X : Type 0} (xs : List X) (place : ℕ) → length xs ≤ place → drop place xs ≡ []
 drop_all [] zero past = refl
 drop_all [] (suc place) past = refl
