@@ -21,14 +21,17 @@ lines_plain : (lines : List Line) → AllByRecursion IsOneLine lines → AllByRe
 lines_plain [] all = tt
 lines_plain (line ∷ lines) all = (all.0.label, lines_plain lines all.1)
 
+-- each literal of such lines is one of a program of one function
 lines_literals : (lines : List Line) → AllByRecursion IsOneLine lines → HasLiterals 1 lines
 lines_literals [] all = tt
 lines_literals (line ∷ lines) all = (all.0.literals.0, lines_literals lines all.1)
 
+-- the instructions of such lines are short
 lines_short : (lines : List Line) → AllByRecursion IsOneLine lines → AllByRecursion (λ line. IsShortInstr line.instr) lines
 lines_short [] all = tt
 lines_short (line ∷ lines) all = (all.0.short, lines_short lines all.1)
 
+-- such lines leave for nowhere
 lines_stay : (lines : List Line) → AllByRecursion IsOneLine lines → AllByRecursion Stays lines
 lines_stay [] all = tt
 lines_stay (line ∷ lines) all = (all.0.stays, lines_stay lines all.1)
