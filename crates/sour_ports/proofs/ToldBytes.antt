@@ -35,6 +35,7 @@ LosesFirst-more a b c bytes into n total first next within sum =
     let len : length (bytes ++ take n into) ≡ total = omega (arith, length-append bytes (take n into), length-take-le n into within) in
     subst (LosesFirst a c) len (LosesFirst-Consumes a c _ (Consumes-trans a b c _ _ first next))
 
+-- where the bytes of two reads are within a bound, no more than that many are lost from the front
 pub LosesAtMost-more : (a b c : Option (List ℕ)) (bytes into : List ℕ) (n most : ℕ) → Consumes a b bytes → Consumes b c (take n into) → n ≤ length into → length bytes + n ≤ most
     → LosesAtMost a c most
 LosesAtMost-more a b c bytes into n most first next within fits =
@@ -48,6 +49,7 @@ take-front into rest n len within fits = take-take n len (into ++ rest) fits ∙
 pub Consumes-more : (a b c : Option (List ℕ)) (bytes piece into : List ℕ) (n : ℕ) → take n piece ≡ take n into → Consumes a b bytes → Consumes b c (take n into) → Consumes a c (bytes ++ take n piece)
 Consumes-more a b c bytes piece into n same first next = Consumes-trans a b c bytes (take n piece) first (subst (Consumes b c) (sym same) next)
 
+-- with the bytes of one more read behind them there are as many more as that read gave
 pub length-more : (bytes piece into new : List ℕ) (n : ℕ) → new ≡ bytes ++ take n piece → take n piece ≡ take n into → n ≤ length into → length new ≡ length bytes + n
 length-more bytes piece into new n grown same within =
     omega (arith, ap length grown, length-append bytes (take n piece), ap length same, length-take-le n into within)

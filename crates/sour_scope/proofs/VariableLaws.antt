@@ -39,6 +39,7 @@ with_lines-push : (names : List (List ℕ)) (front : List RawLine) (line : RawLi
 with_lines-push names [] line = refl
 with_lines-push names (first ∷ front) line = with_lines-push (with_names names (instr_names first.instr)) front line
 
+-- the variables so far, with the names of the next line put behind them, are those with that line too
 pub line_put : (start names after : List (List ℕ)) (front : List RawLine) (line : RawLine) → names ≡ with_lines start front → after ≡ with_names names (instr_names line.instr)
     → after ≡ with_lines start (front ++ line ∷ [])
 line_put start names after front line before put =

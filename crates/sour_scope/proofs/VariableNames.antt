@@ -37,6 +37,7 @@ with_names-differ names [] differ = differ
 with_names-differ names (name ∷ others) differ =
     with_names-differ (with_name names name) others (chosen-differ names name (list_any (bytes_eq name) names) refl differ)
 
+-- and they differ when the names that lines mention are put behind them
 with_lines-differ : (names : List (List ℕ)) (lines : List RawLine) → NamesDiffer names → NamesDiffer (with_lines names lines)
 with_lines-differ names [] differ = differ
 with_lines-differ names (line ∷ lines) differ =
@@ -66,6 +67,7 @@ record Begins (front whole : List (List ℕ)) : Type 0 where
   pub others : List (List ℕ)
   pub is : whole ≡ front ++ others
 
+-- names stand in front, whether one more is put behind them or not
 chosen-begins : (names : List (List ℕ)) (name : List ℕ) (test : Bool) → Begins names (cond test names (names ++ name ∷ []))
 chosen-begins names name true = record { others = []; is = sym (append-nil names) }
 chosen-begins names name false = record { others = name ∷ []; is = refl }
@@ -77,12 +79,14 @@ further front middle whole first second = record {
   is = second.is ∙ ap (λ zs. zs ++ second.others) first.is ∙ append_assoc front first.others second.others;
 }
 
+-- names stay in front when others are put behind them
 with_names-begins : (names others : List (List ℕ)) → Begins names (with_names names others)
 with_names-begins names [] = record { others = []; is = sym (append-nil names) }
 with_names-begins names (name ∷ others) =
     further names (with_name names name) (with_names (with_name names name) others)
     (chosen-begins names name (list_any (bytes_eq name) names)) (with_names-begins (with_name names name) others)
 
+-- and they stay in front when the names that lines mention are put behind them
 with_lines-begins : (names : List (List ℕ)) (lines : List RawLine) → Begins names (with_lines names lines)
 with_lines-begins names [] = record { others = []; is = sym (append-nil names) }
 with_lines-begins names (line ∷ lines) =

@@ -55,6 +55,7 @@ label_plain : (label : Option (List ℕ)) (instr : RawInstr) (tokens : List (Lis
 label_plain None instr tokens place small spells = plain_label None instr tokens place small spells
 label_plain (Some label) instr tokens place small spells = plain_label (Some label) instr tokens place small spells
 
+-- lines that are made of spelled ones have plain labels, as long as their places fit in 64 bits
 labels_plain : (names : List FunctionNames) (own : List (List ℕ)) (place : ℕ) (lines : List RawLine) (text : List (List (List ℕ))) → place + length lines < 2 ^ 64 → SpellsLines lines text
     → AllByRecursion (λ (line : Line). IsPlainName line.label) (lines_of names own place lines)
 labels_plain names own place [] text small spells = tt
@@ -84,6 +85,7 @@ instr_short names own (Assume es exit) short = (
   subst (λ n. n ≤ 16) (sym (length-map exit.extras (extra_of names own))) short.1,
 )
 
+-- where the instructions of written lines are short, so are those of the lines made of them
 instrs_short : (names : List FunctionNames) (own : List (List ℕ)) (place : ℕ) (lines : List RawLine) → HasShortInstrs lines
     → AllByRecursion (λ (line : Line). IsShortInstr line.instr) (lines_of names own place lines)
 instrs_short names own place [] short = tt

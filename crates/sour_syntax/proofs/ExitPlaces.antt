@@ -10,10 +10,12 @@ use Rattle.sour_syntax.specs.ExitPlaces.{LeadsTo, KeepsPlace, KeepsOfLine, Keeps
 use Rattle.sour_syntax.specs.Targets.{text_body, version_body}
 use Rattle.sour_syntax.proofs.Everywhere.{zipped_at}
 
+-- where what may be a version has a body, there is a version, and the body is its own
 body_in : (found : Option Version) (body : BodyView) → version_body found ≡ Some body → (version : Version) × (found ≡ Some version) × (version.body ≡ body)
 body_in None body is = cc
 body_in (Some version) body is = let same : version.body ≡ body = cc in (version, refl, same)
 
+-- and where a version of what may be a function has a body, both are there, and the body is that version's
 version_in : (found : Option Function) (number : ℕ) (body : BodyView) → text_body found number ≡ Some body
     → (function : Function) × (version : Version) × (found ≡ Some function) × (slice_get function.versions number ≡ Some version) × (version.body ≡ body)
 version_in None number body is = cc

@@ -21,6 +21,7 @@ label_at-IsPlaceOf [] label place at = cc
 label_at-IsPlaceOf (line ∷ lines) label zero at = let same : line.label ≡ label = cc in same
 label_at-IsPlaceOf (line ∷ lines) label (suc place) at = label_at-IsPlaceOf lines label place at
 
+-- the place of a label lies within the lines
 pub IsPlaceOf-within : (lines : List Line) (label : List ℕ) (place : ℕ) → IsPlaceOf lines label place → place < length lines
 IsPlaceOf-within lines label place at =
     let within : place < length (labels_of lines) = slice_get_within (labels_of lines) place label at in
@@ -64,6 +65,7 @@ next_within (first ∷ second ∷ lines) zero line end at going = omega arith
 next_within (first ∷ second ∷ lines) (suc place) line end at going =
     let inner : place + 1 < length (second ∷ lines) = next_within (second ∷ lines) place line end at going in omega arith
 
+-- each place that may follow is that of a line, if the next one is or the instruction is a terminator
 follow_within : (lines : List Line) (instr : Instr) (jump : Jump) (next : ℕ) → ((IsTerminator instr → ⊥) → next < length lines) → GoesTo lines instr jump
     → AllByRecursion (λ place. place < length lines) (following instr jump next)
 follow_within lines (Var x e) jump next on goes = (on (λ no. no), tt)

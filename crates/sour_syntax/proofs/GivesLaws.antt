@@ -6,6 +6,7 @@ use Rattle.sour_syntax.specs.declared.scope_table.ScopeTable.{ScopeTable}
 use Rattle.sour_syntax.specs.Scopes.{Scope}
 use Rattle.sour_syntax.specs.Spread.{Gives, GivesEach}
 
+-- to give a place a scope is to give it to each of a list of that place alone
 one_each : (place : ℕ) (scope : Scope) (old : ScopeTable) (has : Bool) (new : ScopeTable) → Gives place scope old has new → GivesEach (place ∷ []) scope old has new
 one_each place scope old false new gives = inl (refl, gives)
 one_each place scope old true new gives = inr (new, gives, (refl, refl))
@@ -17,6 +18,7 @@ IfOk-one (Ok has) place scope old new there is gives =
     subst (λ it. GivesEach (option_to_list it) scope old has new) (sym is) (one_each place scope old has new gives)
 IfOk-one (Err e) place scope old new there is gives = tt
 
+-- a scope that some places all got, and that is then given to others, is given to all of them in turn
 each_on : (places others : List ℕ) (scope : Scope) (old middle : ScopeTable) (has : Bool) (new : ScopeTable) → GivesEach places scope old true middle → GivesEach others scope middle has new → GivesEach (places ++ others) scope old has new
 each_on [] others scope old middle has new (is, same) second = subst (λ (table : ScopeTable). GivesEach others scope table has new) same second
 each_on (place ∷ places) others scope old middle has new (inl (stopped, gives)) second = absurd (false≢true (sym stopped))

@@ -10,9 +10,11 @@ use Rattle.sour_syntax.specs.Labels.{labels_of}
 use Rattle.sour_syntax.proofs.Everywhere.{take_next}
 use Rattle.sour_syntax.specs.Jumps.{named_labels, GoesAmong, GoesTo, GoTo, NamesItsLabels}
 
+-- what stands at a place of a list is in it
 there : {X : Type 0} (xs : List X) (place : ℕ) (x : X) → slice_get xs place ≡ Some x → Contains xs x
 there xs place x at = (place, slice_get_within xs place x at, get_or_from_slice_get xs place x x at)
 
+-- an instruction that goes somewhere among some labels names no others
 names_its : (labels : List (List ℕ)) (instr : Instr) (jump : Jump) → GoesAmong labels instr jump → AllByRecursion (Contains labels) (named_labels instr)
 names_its labels (Var x e) jump goes = tt
 names_its labels (Drop x) jump goes = tt
@@ -29,6 +31,7 @@ names_its labels (Return e) jump goes = tt
 names_its labels Stop jump goes = tt
 names_its labels (Assume es exit) jump goes = tt
 
+-- some of the lines, each of which goes somewhere, name no labels but those of the lines
 name_theirs : (lines some : List Line) (jumps : List Jump) → GoTo lines some jumps → AllByRecursion (λ (line : Line). AllByRecursion (Contains (labels_of lines)) (named_labels line.instr)) some
 name_theirs lines [] [] go = tt
 name_theirs lines [] (jump ∷ jumps) go = absurd go
@@ -39,6 +42,7 @@ name_theirs lines (line ∷ some) (jump ∷ jumps) go = (names_its (labels_of li
 pub NamesItsLabels-GoTo : (lines : List Line) (jumps : List Jump) → GoTo lines lines jumps → NamesItsLabels lines
 NamesItsLabels-GoTo lines jumps go = name_theirs lines lines jumps go
 
+-- the jump of one more line comes behind those of the others
 goto_push : (lines some : List Line) (line : Line) (jumps : List Jump) (jump : Jump) → GoTo lines some jumps → GoesTo lines line.instr jump → GoTo lines (some ++ line ∷ []) (jumps ++ jump ∷ [])
 goto_push lines [] line [] jump go last = (last, tt)
 goto_push lines [] line (first ∷ jumps) jump go last = absurd go
@@ -51,6 +55,7 @@ pub goto_more : (lines : List Line) (count : ℕ) (line : Line) (jumps : List Ju
 goto_more lines count line jumps jump go within is goes =
     subst (λ (some : List Line). GoTo lines some (jumps ++ jump ∷ [])) (sym (take_next lines count line within is)) (goto_push lines (take count lines) line jumps jump go goes)
 
+-- for the line at a place there is a jump at that place, and it is that line's
 goto_at : (lines some : List Line) (jumps : List Jump) (place : ℕ) (line : Line) → GoTo lines some jumps → slice_get some place ≡ Some line
     → (jump : Jump) × (slice_get jumps place ≡ Some jump) × GoesTo lines line.instr jump
 goto_at lines [] [] place line go at = cc

@@ -19,14 +19,17 @@ from_label-first : (label : List ℕ) (line : Line) (lines : List Line) → line
 from_label-first label line lines same =
     ap (λ test. cond test (line ∷ lines) (from_label label lines)) ((bytes_eq-Decides line.label label).1 same)
 
+-- the test whether two labels are the same fails where they differ
 tested : (a b : List ℕ) (test : Bool) → bytes_eq a b ≡ test → a ≢ b → test ≡ false
 tested a b true is other = absurd (other ((bytes_eq-Decides a b).0 is))
 tested a b false is other = refl
 
+-- a first line with another label makes no difference to the lines from the label on
 from_label-other : (label : List ℕ) (line : Line) (lines : List Line) → line.label ≢ label → from_label label (line ∷ lines) ≡ from_label label lines
 from_label-other label line lines other =
     ap (λ test. cond test (line ∷ lines) (from_label label lines)) (tested line.label label (bytes_eq line.label label) refl other)
 
+-- where labels differ, the lines from the label of the one at a place on are those from that place on
 pub from_label-first_label-drop : (lines : List Line) (place : ℕ) → LabelsDiffer lines → place < length lines → from_label (first_label (drop place lines)) lines ≡ drop place lines
 from_label-first_label-drop [] place differ within = absurd (omega arith)
 from_label-first_label-drop (line ∷ lines) zero differ within = from_label-first line.label line lines refl
@@ -35,6 +38,7 @@ from_label-first_label-drop (line ∷ lines) (suc place) differ within =
     from_label-other (first_label (drop place lines)) line lines (λ same. first_label-drop-differs line.label lines place differ.0 inner (sym same))
     ∙ from_label-first_label-drop lines place differ.1 inner
 
+-- the lines from a place on are the line there and those behind it
 drop-suc : (lines : List Line) (place : ℕ) (line : Line) → slice_get lines place ≡ Some line → drop place lines ≡ line ∷ drop (suc place) lines
 drop-suc [] place line found = cc
 drop-suc (first ∷ lines) zero line found = let same : first ≡ line = cc in ap (λ it. it ∷ lines) same
@@ -52,6 +56,7 @@ lt-EndsInTerminator (line ∷ lines) zero end = omega arith
 lt-EndsInTerminator (line ∷ lines) (suc place) end =
     let inner : place < length lines = lt-EndsInTerminator lines place end in omega arith
 
+-- lines that end in a terminator still do without their first, if that one is none
 rest_ends : (line : Line) (lines : List Line) → (IsTerminator line.instr → ⊥) → EndsInTerminator (line ∷ lines) → EndsInTerminator lines
 rest_ends line [] going end = absurd (going end)
 rest_ends line (next ∷ lines) going end = end

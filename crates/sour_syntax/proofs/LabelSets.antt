@@ -16,6 +16,7 @@ abbrev pub Found : List (List ℕ) → List ℕ → Option ℕ → Type 0
 Found names name (Some place) = slice_get names place ≡ Some name
 Found names name None = AllByRecursion (λ other. other ≢ name) names
 
+-- the test whether a number is less than itself fails
 not_below : (a : ℕ) (test : Bool) → ltb a a ≡ test → test ≡ false
 not_below a false is = refl
 not_below a true is = absurd (omega (arith, lt_of a is))
@@ -23,6 +24,7 @@ not_below a true is = absurd (omega (arith, lt_of a is))
     lt_of : (a : ℕ) → ltb a a ≡ true → a < a
     lt_of a is = grind arith
 
+-- a name is found at its first place if that lies within the names, and is none of them otherwise
 found_where : (names : List (List ℕ)) (name : List ℕ) (place : ℕ) (any : Bool) → Located names name place any → Found names name (cond (ltb place (length names)) (Some place) None)
 found_where names name place true is =
     subst (λ test. Found names name (cond test (Some place) None)) (sym (lt-ltb place (length names) (slice_get_within names place name is))) is
@@ -37,10 +39,12 @@ found text keys name result is =
     let whole = found_where (map text keys) name at _ (located text keys name) in
     subst (Found (map text keys) name) (ap (λ count. cond (ltb at count) (Some at) None) (length-map keys text) ∙ sym is) whole
 
+-- where a place is found for a name, the name stands there
 pub IfSome-Found : (names : List (List ℕ)) (name : List ℕ) (result : Option ℕ) → Found names name result → IfSome result (λ place. slice_get names place ≡ Some name)
 IfSome-Found names name (Some place) is = is
 IfSome-Found names name None is = tt
 
+-- and where none is found, it is none of the names
 pub IfNone-Found : (names : List (List ℕ)) (name : List ℕ) (result : Option ℕ) → Found names name result → IfNone result (AllByRecursion (λ other. other ≢ name) names)
 IfNone-Found names name (Some place) is = tt
 IfNone-Found names name None is = is
@@ -50,15 +54,18 @@ pub record AreLabels (lines : List Line) (count : ℕ) (names : List (List ℕ))
   pub are : names ≡ labels_of (take count lines)
   pub differ : LabelsDiffer (take count lines)
 
+-- labels differ with one line more, if its label is none of theirs
 differ_push : (lines : List Line) (line : Line) → LabelsDiffer lines → AllByRecursion (λ other. other ≢ line.label) (labels_of lines) → LabelsDiffer (lines ++ line ∷ [])
 differ_push [] line differ others = (tt, tt)
 differ_push (first ∷ lines) line differ others =
     (all_push (λ (other : Line). other.label ≢ first.label) lines line differ.0 (λ same. others.0 (sym same)), differ_push lines line differ.1 others.1)
 
+-- a label that none of some lines has isn't that of one among them
 among : (label : List ℕ) (lines rest : List Line) (line : Line) → AllByRecursion (λ other. other.label ≢ label) (lines ++ line ∷ rest) → line.label ≢ label
 among label [] rest line others = others.0
 among label (first ∷ lines) rest line others = among label lines rest line others.1
 
+-- labels don't differ where a line has the label of one before it
 repeated : (lines rest : List Line) (line : Line) (place : ℕ) → IsPlaceOf lines line.label place → LabelsDiffer (lines ++ line ∷ rest) → ⊥
 repeated [] rest line place at differ = cc
 repeated (first ∷ lines) rest line zero at differ =
@@ -105,6 +112,7 @@ module _ (lines : List Line) (count : ℕ) (line : Line) (within : count < lengt
 pub are_none : (lines : List Line) → AreLabels lines 0 []
 are_none lines = record { are = refl; differ = tt }
 
+-- where no line is left, the names are the labels of all the lines, and these differ
 pub are_all : (lines : List Line) (count : ℕ) (names : List (List ℕ)) → AreLabels lines count names → take count lines ≡ lines → (names ≡ labels_of lines) × LabelsDiffer lines
 are_all lines count names so_far whole = (so_far.are ∙ ap labels_of whole, subst LabelsDiffer whole so_far.differ)
 

@@ -4,6 +4,7 @@ use Rattle.std.proofs.lemmas.Option.{slice_get_within}
 use Rattle.sour_syntax.specs.declared.instruction.Line.{Line}
 use Rattle.sour_syntax.specs.Terminator.{IsTerminator, EndsInTerminator}
 
+-- the line at the last place is a terminator exactly where the lines end in one
 ends_at : (lines : List Line) (place : ℕ) (line : Line) → place + 1 ≡ length lines → slice_get lines place ≡ Some line → IsTerminator line.instr ↔ EndsInTerminator lines
 ends_at [] place line last at = cc
 ends_at (first ∷ []) zero line last at =

@@ -11,10 +11,12 @@ abbrev pub Located : List (List ℕ) → List ℕ → ℕ → Bool → Type 0
 Located names name place true = slice_get names place ≡ Some name
 Located names name place false = AllByRecursion (λ other. other ≢ name) names × (place ≡ length names)
 
+-- two names differ where the test whether they are the same fails
 differs : (a b : List ℕ) → bytes_eq a b ≡ false → b ≢ a
 differs a b other same =
     let equal : bytes_eq a b ≡ true = (bytes_eq-Decides a b).1 (sym same) in cc
 
+-- with one more name in front, the place of a name is the first, or one further than among the others
 located_first : (first : List ℕ) (names : List (List ℕ)) (name : List ℕ) (place : ℕ) (any test : Bool)
     → bytes_eq name first ≡ test → Located names name place any
     → Located (first ∷ names) name (cond (not test) (1 + place) 0) (test || any)
@@ -26,11 +28,13 @@ located_first first names name place true false is found =
 located_first first names name place false false is found =
     ((differs name first is, found.0), omega (arith, found.1))
 
+-- the first key with a name tells its place; where there is none, the name is none of the names
 pub located : {N : Type 0} (text : N → List ℕ) (keys : List N) (name : List ℕ)
     → Located (map text keys) name (position_or_len (λ key. bytes_eq name (text key)) keys) (list_any (λ key. bytes_eq name (text key)) keys)
 located text [] name = (tt, refl)
 located text (key ∷ keys) name = located_first (text key) (map text keys) name _ _ (bytes_eq name (text key)) refl (located text keys name)
 
+-- a name that is there keeps its number, and one that isn't gets the next, behind the others
 by_cases : {N : Type 0} (text : N → List ℕ) (keys : List N) (key : N) (place : ℕ) (any : Bool)
     → Located (map text keys) (text key) place any
     → Numbers (map text keys) (map text (cond any keys (keys ++ key ∷ []))) (text key) (record { 0 = place })

@@ -14,6 +14,7 @@ use Rattle.sour_syntax.proofs.Everywhere.{take_next}
 pub record FoundSoFar (scope : Scope) (number : ℕ) (found : List VarId) : Type 0 where
   pub are : found ++ members number (drop number scope) ≡ members 0 scope
 
+-- the variables found so far and those from the next one on are all that are in scope
 with_next : (scope rest : Scope) (number : ℕ) (found : List VarId) (is_in : Bool) → drop number scope ≡ is_in ∷ rest → FoundSoFar scope number found → found ++ members number (is_in ∷ rest) ≡ members 0 scope
 with_next scope rest number found is_in at so_far = ap (λ (behind : Scope). found ++ members number behind) (sym at) ∙ so_far.are
 
@@ -35,12 +36,14 @@ found_same scope number found within at so_far = record {
   are = rw add-one (with_next scope (drop (suc number) scope) number found false at so_far);
 }
 
+-- behind all its variables nothing is left of a scope
 drop_all : (scope : Scope) (number : ℕ) → length scope ≤ number → drop number scope ≡ []
 drop_all [] zero past = refl
 drop_all [] (suc number) past = refl
 drop_all (is_in ∷ scope) zero past = absurd (omega arith)
 drop_all (is_in ∷ scope) (suc number) past = drop_all scope number (omega arith)
 
+-- with nothing behind them the variables found are the same
 append_nothing : (found : List VarId) → found ++ [] ≡ found
 append_nothing [] = refl
 append_nothing (x ∷ found) = ap (λ (rest : List VarId). x ∷ rest) (append_nothing found)
@@ -54,6 +57,7 @@ found_all scope number found past so_far =
 pub lists_more : (rows : Rows) (count : ℕ) (row : Option Scope) → count < length rows → row ≡ get_or rows count row → map variables_in (take count rows) ++ variables_in row ∷ [] ≡ map variables_in (take (count + 1) rows)
 lists_more rows count row within is = sym (map-append variables_in (take count rows) (row ∷ [])) ∙ ap (map variables_in) (sym (take_next rows count row within is))
 
+-- the scope behind an instruction tells of as many variables as the one before it
 length_after : (instr : Instr) (scope : Scope) → length (scope_after instr scope) ≡ length scope
 length_after (Var x e) scope = length-set scope x.0 true
 length_after (Drop x) scope = length-set scope x.0 false
@@ -85,6 +89,7 @@ kept body rows place None are at = are.unreached place at
 kept body rows place (Some scope) are at =
     let path = are.reached place scope (record { is = at }) in record { count = path.count; scope = scope; path = path.path; are = refl }
 
+-- the lists say what is kept for each place from one on, where that of each row says it for its own
 keeps_each : (body : BodyView) (rows : Rows) (start : ℕ) → ((index : ℕ) (row : Option Scope) → slice_get rows index ≡ Some row → KeepsScope body (start + index) (variables_in row)) → KeepsScopes body start (map variables_in rows)
 keeps_each body [] start each = tt
 keeps_each body (row ∷ rows) start each =
@@ -100,6 +105,7 @@ pub KeepsScopes-map : (body : BodyView) (rows : Rows) → AreScopes body rows �
 KeepsScopes-map body rows are = keeps_each body rows 0 (λ index row at.
     let there : index ≡ 0 + index = omega arith in subst (λ place. KeepsScope body place (variables_in row)) there (kept body rows index row are at))
 
+-- what is kept at an index of the lists from a place on is kept for the place so much further on
 keeps_from : (body : BodyView) (lists : List (Option (List VarId))) (start index : ℕ) (list : Option (List VarId)) → KeepsScopes body start lists → slice_get lists index ≡ Some list → KeepsScope body (start + index) list
 keeps_from body [] start index list keeps at = cc
 keeps_from body (first ∷ lists) start zero list keeps at =

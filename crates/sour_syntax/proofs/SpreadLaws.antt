@@ -21,6 +21,7 @@ gaps [] = 0
 gaps (None ∷ rows) = suc (gaps rows)
 gaps (Some scope ∷ rows) = gaps rows
 
+-- when a place without a scope gets one, one place fewer has none
 gaps_set : (rows : Rows) (place : ℕ) (scope : Scope) → slice_get rows place ≡ Some None → gaps (slice_set rows place (Some scope)) + 1 ≡ gaps rows
 gaps_set [] place scope at = cc
 gaps_set (None ∷ rows) zero scope at = omega arith
@@ -28,11 +29,13 @@ gaps_set (Some other ∷ rows) zero scope at = cc
 gaps_set (None ∷ rows) (suc place) scope at = let inner = gaps_set rows place scope at in omega (arith, inner)
 gaps_set (Some other ∷ rows) (suc place) scope at = gaps_set rows place scope at
 
+-- a place that gets a scope has it
 set_here : (rows : Rows) (place : ℕ) (scope : Scope) → place < length rows → slice_get (slice_set rows place (Some scope)) place ≡ Some (Some scope)
 set_here [] place scope within = absurd (omega arith)
 set_here (row ∷ rows) zero scope within = refl
 set_here (row ∷ rows) (suc place) scope within = set_here rows place scope (omega arith)
 
+-- a place with a scope keeps it when one that has none gets one
 set_keeps : (rows : Rows) (place other : ℕ) (scope kept : Scope) → slice_get rows place ≡ Some None → slice_get rows other ≡ Some (Some kept)
     → slice_get (slice_set rows place (Some scope)) other ≡ Some (Some kept)
 set_keeps [] place other scope kept none at = cc
@@ -41,6 +44,7 @@ set_keeps (row ∷ rows) zero (suc other) scope kept none at = at
 set_keeps (row ∷ rows) (suc place) zero scope kept none at = at
 set_keeps (row ∷ rows) (suc place) (suc other) scope kept none at = set_keeps rows place other scope kept none at
 
+-- where a place has a scope after one was given, it had it before, or that one was given to it
 set_back : (rows : Rows) (place other : ℕ) (scope kept : Scope) → slice_get (slice_set rows place (Some scope)) other ≡ Some (Some kept)
     → (slice_get rows other ≡ Some (Some kept)) ⊎ ((other ≡ place) × (kept ≡ scope))
 set_back [] place other scope kept at = inl at
@@ -50,26 +54,31 @@ set_back (row ∷ rows) (suc place) zero scope kept at = inl at
 set_back (row ∷ rows) (suc place) (suc other) scope kept at =
     elim (set_back rows place other scope kept at) [ inl was ↦ inl was | inr is ↦ inr (ap suc is.0, is.1) ]
 
+-- there are as many rows when one of them is set
 length_set : (rows : Rows) (place : ℕ) (row : Option Scope) → length (slice_set rows place row) ≡ length rows
 length_set [] place row = refl
 length_set (first ∷ rows) zero row = refl
 length_set (first ∷ rows) (suc place) row = ap suc (length_set rows place row)
 
+-- what stands at an index stands there with one place more behind
 get_front : (xs : List ℕ) (place index found : ℕ) → slice_get xs index ≡ Some found → slice_get (xs ++ place ∷ []) index ≡ Some found
 get_front [] place index found at = cc
 get_front (x ∷ xs) place zero found at = at
 get_front (x ∷ xs) place (suc index) found at = get_front xs place index found at
 
+-- a place that is put behind others stands at the index that is their count
 get_last : (xs : List ℕ) (place : ℕ) → slice_get (xs ++ place ∷ []) (length xs) ≡ Some place
 get_last [] place = refl
 get_last (x ∷ xs) place = get_last xs place
 
+-- what stands at an index, with a place put behind, stood there before or is that place
 get_back : (xs : List ℕ) (place index found : ℕ) → slice_get (xs ++ place ∷ []) index ≡ Some found → (slice_get xs index ≡ Some found) ⊎ (found ≡ place)
 get_back [] place zero found at = inr cc
 get_back [] place (suc index) found at = cc
 get_back (x ∷ xs) place zero found at = inl at
 get_back (x ∷ xs) place (suc index) found at = get_back xs place index found at
 
+-- a place that is put behind others makes one more of them
 length_push : (xs : List ℕ) (place : ℕ) → length (xs ++ place ∷ []) ≡ length xs + 1
 length_push [] place = refl
 length_push (x ∷ xs) place = let inner = length_push xs place in omega (arith, inner)
@@ -106,9 +115,11 @@ pub record Grows (rows : Rows) (reached : List ℕ) (new_rows : Rows) (new_reach
   pub places : (index place : ℕ) → slice_get reached index ≡ Some place → slice_get new_reached index ≡ Some place
   pub counts : gaps new_rows + length new_reached ≡ gaps rows + length reached
 
+-- where each place keeps its scope, the line with a label keeps its own
 met_on : (body : BodyView) (rows others : Rows) (label : List ℕ) (scope : Scope) → ((place : ℕ) (kept : Scope) → IsAt rows place kept → IsAt others place kept) → IsMet body rows label scope → IsMet body others label scope
 met_on body rows others label scope keeps met = record { place = met.place; at = met.at; is = keeps met.place scope met.is }
 
+-- and where each does, a line that is done stays done
 done_on : (body : BodyView) (rows others : Rows) (place : ℕ) (scope : Scope) (line : Line) → ((other : ℕ) (kept : Scope) → IsAt rows other kept → IsAt others other kept) → IsDone body rows place scope line → IsDone body others place scope line
 done_on body rows others place scope line keeps done = record {
   fine = done.fine;
@@ -154,9 +165,11 @@ module _ (body : BodyView) (rows : Rows) (reached : List ℕ) (taken place : ℕ
     ];
   }
 
+-- rows and reached places that stay the same have grown, by nothing
 grows_none : (rows : Rows) (reached : List ℕ) → Grows rows reached rows reached
 grows_none rows reached = record { keeps = λ place scope at. at; places = λ index place at. at; counts = refl }
 
+-- what grows out of what grew out of others grows out of these
 grows_on : (rows middle_rows new_rows : Rows) (reached middle new_reached : List ℕ) → Grows rows reached middle_rows middle → Grows middle_rows middle new_rows new_reached → Grows rows reached new_rows new_reached
 grows_on rows middle_rows new_rows reached middle new_reached first second = record {
   keeps = λ place scope at. second.keeps place scope (first.keeps place scope at);
@@ -170,6 +183,7 @@ pub record IsGiven (body : BodyView) (taken place : ℕ) (scope : Scope) (old ne
   pub at : IsAt new.rows.items place scope
   pub grows : Grows old.rows.items old.reached.items new.rows.items new.reached.items
 
+-- all that held still holds, and the place has the scope, where it had none and got that of a path
 put_given : (body : BodyView) (taken place : ℕ) (scope : Scope) (old new : ScopeTable) → IsSoFar body old.rows.items old.reached.items taken → HasPath body place scope
     → slice_get old.rows.items place ≡ Some None → Puts place scope old new → IsGiven body taken place scope old new
 put_given body taken place scope old new so_far path none puts =
@@ -182,10 +196,12 @@ put_given body taken place scope old new so_far path none puts =
           (subst (λ (others : List ℕ). Grows rows reached (slice_set rows place (Some scope)) others) (sym puts.reached) (put_grows body rows reached taken place scope none));
     }
 
+-- and the same where the place had the scope already and the table is unchanged
 kept_given : (body : BodyView) (taken place : ℕ) (scope : Scope) (old new : ScopeTable) → IsSoFar body old.rows.items old.reached.items taken → IsAt old.rows.items place scope → new ≡ old → IsGiven body taken place scope old new
 kept_given body taken place scope old new so_far at same =
     subst (λ (table : ScopeTable). IsGiven body taken place scope old table) (sym same) (record { so_far = so_far; at = at; grows = grows_none old.rows.items old.reached.items })
 
+-- so in either case a place that was given the scope of a path has it, and all that held still holds
 given_over : (body : BodyView) (taken place : ℕ) (scope : Scope) (row : Option Scope) (old new : ScopeTable) → IsSoFar body old.rows.items old.reached.items taken → HasPath body place scope
     → slice_get old.rows.items place ≡ Some row → GivesOver row place scope old true new → IsGiven body taken place scope old new
 given_over body taken place scope None old new so_far path at (has, puts) = put_given body taken place scope old new so_far path at puts
@@ -206,6 +222,7 @@ pub record AreGiven (body : BodyView) (taken : ℕ) (places : List ℕ) (scope :
   pub at : AllByRecursion (λ place. IsAt new.rows.items place scope) places
   pub grows : Grows old.rows.items old.reached.items new.rows.items new.reached.items
 
+-- each of some places that were all given the scope of paths to them has it, and all that held still holds
 given_each : (body : BodyView) (taken : ℕ) (places : List ℕ) (scope : Scope) (old new : ScopeTable) → IsSoFar body old.rows.items old.reached.items taken → AllByRecursion (λ place. HasPath body place scope) places
     → GivesEach places scope old true new → AreGiven body taken places scope old new
 given_each body taken [] scope old new so_far paths (has, same) =
@@ -219,6 +236,7 @@ given_each body taken (place ∷ places) scope old new so_far paths (inr (middle
       grows = grows_on old.rows.items middle.rows.items new.rows.items old.reached.items middle.reached.items new.reached.items first.grows rest.grows;
     }
 
+-- where one of the places has another scope than a path gives it, the body has no scopes
 other_each : (body : BodyView) (taken : ℕ) (places : List ℕ) (scope : Scope) (old new : ScopeTable) → IsSoFar body old.rows.items old.reached.items taken → AllByRecursion (λ place. HasPath body place scope) places
     → GivesEach places scope old false new → HasScopes body → ⊥
 other_each body taken [] scope old new so_far paths (has, same) scopes = absurd (false≢true has)
@@ -258,6 +276,7 @@ module _ (body : BodyView) (differ : LabelsDiffer body.lines) (place : ℕ) (lin
       all_met rows after [] all = tt
       all_met rows after (other ∷ places) all = (record { place = other; at = refl; is = all.0 }, all_met rows after places all.1)
 
+-- if the line at a place is done, so is any line with any scope that is found at the same place
 done_as : (body : BodyView) (rows : Rows) (place other : ℕ) (scope kept : Scope) (line it : Line) → place ≡ other → IsAt rows place scope → IsAt rows other kept
     → slice_get body.lines place ≡ Some line → slice_get body.lines other ≡ Some it → IsDone body rows place scope line → IsDone body rows other kept it
 done_as body rows place other scope kept line it same here there at at_it done =
@@ -314,19 +333,23 @@ module _ (body : BodyView) (differ : LabelsDiffer body.lines) (taken place : ℕ
       let path = so_far.paths place scope here in
       other_each body taken (following line.instr jump (place + 1)) (scope_after line.instr scope) old new so_far (paths_on body differ place line at jump scope goes path) gives scopes
 
+-- among rows without scopes no place has one
 none_yet : (count place : ℕ) (scope : Scope) → slice_get (replicate {A = Option Scope} count None) place ≡ Some (Some scope) → ⊥
 none_yet zero place scope at = cc
 none_yet (suc count) zero scope at = cc
 none_yet (suc count) (suc place) scope at = none_yet count place scope at
 
+-- the first of some rows without scopes has none
 first_none : (count : ℕ) → 0 < count → slice_get (replicate {A = Option Scope} count None) 0 ≡ Some None
 first_none zero some = absurd (omega arith)
 first_none (suc count) some = refl
 
+-- where the first place alone was reached, a place that was reached is the first
 only_first : (index place : ℕ) → slice_get (0 ∷ []) index ≡ Some place → 0 ≡ place
 only_first zero place at = cc
 only_first (suc index) place at = cc
 
+-- where no place has a scope and the first gets that of the parameters, all holds with none taken
 start_at : (body : BodyView) (rows : Rows) → slice_get rows 0 ≡ Some None → ((place : ℕ) (scope : Scope) → slice_get rows place ≡ Some (Some scope) → ⊥) → length rows ≡ length body.lines
     → IsSoFar body (slice_set rows 0 (Some (first_scope body))) (0 ∷ []) 0
 start_at body rows none no_others each =

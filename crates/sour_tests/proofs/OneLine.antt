@@ -12,13 +12,16 @@ use Rattle.sour_syntax.specs.Body.{IsBody}
 use Rattle.sour_syntax.specs.Labels.{first_label}
 use Rattle.sour_syntax.specs.Scopes.{Scope, following_labels, HasScope, IsFine}
 
+-- the line with this label that returns this literal
 abbrev returns : List ℕ → Literal → Line
 returns label literal = record { label = label; instr = Return (Plain (Lit literal)) }
 
+-- the body of a function without parameters whose one line returns this literal
 abbrev body_that_returns : FunId → List (List ℕ) → List ℕ → Literal → BodyView
 body_that_returns function variables label literal =
     record { function = function; parameters = 0; variables = variables; lines = returns label literal ∷ [] }
 
+-- where one line or none is taken, a line that was taken is that one
 picked : (test : Bool) (line at : Line) (rest : List Line) → cond test (line ∷ []) [] ≡ at ∷ rest → line ≡ at
 picked true line at rest same = cc
 picked false line at rest same = cc
@@ -32,6 +35,7 @@ no_path function variables label literal count to scope (from, before, at, rest,
     let none : P (returns label literal) = subst P (sym same) follow in
     absurd (omega (arith, none.1))
 
+-- in such a body two paths to the same label give it the same scope
 one_scope : (function : FunId) (variables : List (List ℕ)) (label : List ℕ) (literal : Literal) (m n : ℕ) (to : List ℕ) (scope other : Scope)
     → HasScope (body_that_returns function variables label literal) m to scope → HasScope (body_that_returns function variables label literal) n to other → scope ≡ other
 one_scope function variables label literal zero zero to scope other has also = has.1 ∙ sym also.1

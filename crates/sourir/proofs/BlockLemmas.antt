@@ -6,6 +6,7 @@ use Rattle.sour_ports.specs.Told.{AppendsFront}
 use Rattle.sour_ports.proofs.ToldBytes.{AppendsFront-behind, AppendsFront-longer}
 use Rattle.sour_semantics.specs.Block.{block}
 
+-- the first line of a block, which gives the number of the input
 abbrev head : ℕ → List ℕ
 head number = codes "input " ++ decimal number ++ 10 ∷ []
 

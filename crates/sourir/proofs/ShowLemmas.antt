@@ -70,6 +70,7 @@ next_shown program inputs input place number budget end block within same shown 
     let at : number ≡ 1 + length (take place inputs) = omega (arith, length-take-le place inputs (omega arith)) in
     subst (λ n. RunShows program input n budget end block) at shown
 
+-- behind the blocks of the first inputs, the block of the next makes those of one input more
 pushed : (program : ProgramView) (inputs : List (List Literal)) (input : List Literal) (place number budget : ℕ) (ends : List BlockEnd) (end : BlockEnd) (bytes block : List ℕ)
     → place < length inputs → input ≡ get_or inputs place input → number ≡ place + 1
     → RunShowsAll program (take place inputs) 1 budget ends bytes

@@ -31,10 +31,12 @@ IsDigits-pass [] some pass = absurd (omega arith)
 IsDigits-pass (b ∷ bytes) some pass =
     (All-head (λ c. is_ascii_digit c ≡ true) b bytes pass, All-tail (λ c. is_ascii_digit c ≡ true) b bytes pass)
 
+-- where a word is digits, each of its bytes is one
 pub pass-IsDigits : (word : List ℕ) → IsDigits word → AllPass is_ascii_digit word
 pass-IsDigits [] digits = absurd digits
 pass-IsDigits (b ∷ bytes) digits = All-cons (λ c. is_ascii_digit c ≡ true) b bytes digits.0 digits.1
 
+-- where three words ask for a budget, the third writes it, and it is within the limits
 asked_for : (command option number : List ℕ) (budget : ℕ) → AskForRun (command ∷ option ∷ number ∷ []) budget → WritesNumber budget number × IsBudget budget
 asked_for command option number budget (inl default) = let no : command ∷ option ∷ number ∷ [] ≡ codes "run" ∷ [] = default.0 in cc
 asked_for command option number budget (inr (word, same, writes, is)) =
