@@ -103,6 +103,7 @@ pub record Reads (program : ProgramView) (moment : Moment) (body : BodyView) (li
   pub runs : body_of program (code_of moment.frame.code) ≡ body
   pub goes : GoesTo (frame_lines program moment.frame) line.instr jump
 
+-- while the run goes on in a body, they stand at its frame's place among the lines and the jumps of that body
 pub Reads-lines : (program : ProgramView) (start moment : Moment) (body : BodyView) (lines : List Line) (jumps : List Jump) (default : Line) (other : Jump) → IsProgram program → moment.frame.code ≡ start.frame.code
     → body_at program (code_of start.frame.code) ≡ Some body → lines ≡ body.lines → LabelsDiffer lines → EndsInTerminator lines
     → GoTo body.lines body.lines jumps → moment.end ≡ Cut → StandsAtLine program moment.frame None → Reads program moment body (get_or lines moment.frame.place default) (get_or jumps moment.frame.place other)
@@ -121,6 +122,7 @@ pub from_label-place : (program : ProgramView) (moment : Moment) (line : Line) �
 from_label-place program moment line at =
     from_label-first_label-drop (frame_lines program moment.frame) moment.frame.place at.differ at.within ∙ drop-slice_get (frame_lines program moment.frame) moment.frame.place line at.found
 
+-- so it does in the body that the frame runs, with the lines from the next place on behind it
 pub IsLineAt-body : (program : ProgramView) (moment : Moment) (line : Line) (body : BodyView) → body_at program (code_of moment.frame.code) ≡ Some body → IsAt program moment line
     → IsLineAt body (label_at body.lines moment.frame.place) line (drop (moment.frame.place + 1) body.lines)
 IsLineAt-body program moment line body runs at =
@@ -155,12 +157,14 @@ IsNamed-line program moment line checked at stands =
     All-at Named stands.body.lines moment.frame.place line (subst Found (frame_lines-are program moment.frame stands.body stands.runs) at.found)
     (IsTextBody-runs program moment.frame.code stands.body checked stands.runs).exits.named
 
+-- where a continuation of the line lands, exactly its map's variables and the one that waits are in scope
 pub Lands-line : (program : ProgramView) (moment : Moment) (line : Line) → IsProgram program → IsAt program moment line → StandsAtLine program moment.frame None
     → AllByRecursion (Lands program.functions []) (continuations_of line.instr)
 Lands-line program moment line checked at stands =
     (IsTextBody-runs program moment.frame.code stands.body checked stands.runs).exits.land stands.count (label_at stands.body.lines moment.frame.place) (scope_of moment.frame.env) line
     (drop (moment.frame.place + 1) stands.body.lines) stands.path (IsLineAt-body program moment line stands.body stands.runs at)
 
+-- the next step of a run of the text carries out the instruction of the line
 pub step-state_at : (program : ProgramView) (input : List Literal) (moment : Moment) (line : Line) → IsAt program moment line
     → step program text_choice (state_at program input moment) ≡ act program text_choice (frame_at program moment.frame None) line.instr (label_at (frame_lines program moment.frame) (moment.frame.place + 1)) (state_at program input moment)
 step-state_at program input moment line at =
@@ -220,6 +224,7 @@ IsAtTurns-line program input moment budget line at takes used =
       rests = inr (ap ending_of at.going, used, omega (arith, more));
     }
 
+-- a run that has used its budget up rests at a line whose instruction always takes a turn
 pub IsAtTurns-more : (program : ProgramView) (input : List Literal) (moment : Moment) (budget : ℕ) (line : Line) → IsAt program moment line → AlwaysTakesTurn line.instr
     → moment.turns ≡ budget → IsAtTurns budget (run_at program input true moment)
 IsAtTurns-more program input moment budget line at always used =
@@ -242,6 +247,7 @@ turns-always program input old new instr acts always =
     ap (λ (s : State). s.turns) acts
     ∙ always program text_choice (frame_at program old.frame None) (label_at (frame_lines program old.frame) (old.frame.place + 1)) (state_at program input old)
 
+-- one that takes none unless it leads out, and does not lead out, leaves the turns as they were
 pub turns-without : (program : ProgramView) (input : List Literal) (old new : Moment) (instr : Instr) → ActsAs program input instr old new → (LeadsOut instr old.frame.env old.heap → ⊥) → StaysWithoutTurn instr
     → new.turns ≡ old.turns
 turns-without program input old new instr acts inside without =
@@ -254,9 +260,11 @@ pub turns-grow : (program : ProgramView) (input : List Literal) (old new : Momen
 turns-grow program input old new instr acts inside true always = omega (arith, turns-always program input old new instr acts always)
 turns-grow program input old new instr acts inside false without = omega (arith, turns-without program input old new instr acts inside without)
 
+-- some program: one without functions
 abbrev any_program : ProgramView
 any_program = record { functions = []; main = record { 0 = 0 } }
 
+-- some frame: one without variables, which waits for nothing
 abbrev any_frame : Frame
 any_frame = record { code = text (record { 0 = 0 }) 0; label = []; environment = []; waits = None }
 
@@ -296,6 +304,7 @@ pub before-always : (program : ProgramView) (input : List Literal) (budget : ℕ
 before-always program input budget old new line at acts always left =
     before-turn budget (length (frame_lines program old.frame)) old new at.going at.within left (turns-always program input old new line.instr acts always)
 
+-- so does one that takes no turn and does not lead out, where the run goes on only to what may follow it
 pub before-without : (program : ProgramView) (input : List Literal) (budget : ℕ) (old new : Moment) (line : Line) (jump : Jump) → IsAt program old line → ActsAs program input line.instr old new
     → (LeadsOut line.instr old.frame.env old.heap → ⊥) → StaysWithoutTurn line.instr → ComesTo line.instr (following line.instr jump (old.frame.place + 1)) old.frame.env new new.end
     → before budget (length (frame_lines program old.frame)) new < before budget (length (frame_lines program old.frame)) old
@@ -341,6 +350,7 @@ StandsAtLine-act program old new line jump at goes stays further stands =
       row = further.row ∙ stands.row;
     }
 
+-- what holds of a run at each moment holds behind an instruction that comes to what follows in its frame
 pub Stands-act : (program : ProgramView) (input : List Literal) (old new : Moment) (line : Line) (jump : Jump) → IsAt program old line → GoesTo (frame_lines program old.frame) line.instr jump → StaysInFrame old new
     → ComesTo line.instr (following line.instr jump (old.frame.place + 1)) old.frame.env new new.end → new.read ≤ length input → old.turns ≤ new.turns → Stands program input old → Stands program input new
 Stands-act program input old new line jump at goes stays comes within turns stands =

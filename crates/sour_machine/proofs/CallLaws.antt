@@ -65,6 +65,7 @@ StandsWaiting-caller program old line x callee es is at there stands =
       place = there;
     }
 
+-- behind a call each frame below stands waiting, where those before it and the one that called do
 entered-below : (program : ProgramView) (x : VarId) (old new : Moment) (end : End) → EntersOr program x old new end
     → AllByRecursion (StandsWaiting program) old.below → StandsWaiting program (record { frame = record old.frame { place = old.frame.place + 1 }; result = x }) → AllByRecursion (StandsWaiting program) new.below
 entered-below program x old new Cut enters all caller =
@@ -77,6 +78,7 @@ entered-below program x old new (Trapped trap) enters all caller =
     let Each : List Waiting → Type 0 = AllByRecursion (StandsWaiting program) in subst Each (sym enters.below) all
 entered-below program x old new Memory enters all caller = absurd enters
 
+-- where the run goes on behind a call, its top frame stands at a line
 entered-line : (program : ProgramView) (x : VarId) (old new : Moment) (end : End) → EntersOr program x old new end → end ≡ Cut → StandsAtLine program new.frame None
 entered-line program x old new Cut enters going = enters.stands
 entered-line program x old new (Returned value) enters going = cc
@@ -84,6 +86,7 @@ entered-line program x old new Stopped enters going = cc
 entered-line program x old new (Trapped trap) enters going = cc
 entered-line program x old new Memory enters going = cc
 
+-- a call enters one frame at most
 entered-calls : (program : ProgramView) (x : VarId) (old new : Moment) (end : End) → EntersOr program x old new end → new.calls ≤ old.calls + 1
 entered-calls program x old new Cut enters = omega (arith, enters.calls)
 entered-calls program x old new (Returned value) enters = absurd enters
@@ -115,6 +118,7 @@ pub record Crossed (program : ProgramView) (input : List Literal) (old new : Mom
   pub calls : new.calls ≤ old.calls + 1
   pub counted : new.calls ≡ old.calls + entered_by program (state_at program input old) (state_at program input new)
 
+-- it holds behind such an instruction, if the top frame stood at its line and each below stood waiting
 crossed_by : (program : ProgramView) (input : List Literal) (old new : Moment) (line : Line) (instr : Instr) → line.instr ≡ instr → IsAt program old line → IsReady instr old.frame.env → CrossesTo program instr old new
     → StandsAtLine program old.frame None → AllByRecursion (StandsWaiting program) old.below → Crossed program input old new
 crossed_by program input old new line (Var x e) is at ready crosses stands all = absurd crosses
@@ -149,6 +153,7 @@ crossed_by program input old new line (Assume es exit) is at ready crosses stand
   counted = others-counted program input old new line at (ap is_call is) crosses.calls;
 }
 
+-- and so it does if what holds of a run at each moment held before it
 pub Crossed-line : (program : ProgramView) (input : List Literal) (old new : Moment) (line : Line) → IsAt program old line → IsReady line.instr old.frame.env → CrossesTo program line.instr old new
     → Stands program input old → Crossed program input old new
 Crossed-line program input old new line at ready crosses stands =
@@ -175,6 +180,7 @@ pub record ReadsCrossing (program : ProgramView) (moment : Moment) (body : BodyV
   pub runs : body_of program (code_of moment.frame.code) ≡ body
   pub crosses : IsCrossing line.instr ⊎ LeadsOut line.instr moment.frame.env moment.heap
 
+-- where a run stands at such a line, it is the one at its frame's place among the lines of the body
 pub ReadsCrossing-lines : (program : ProgramView) (start moment : Moment) (body : BodyView) (lines : List Line) (default : Line) (budget : ℕ) → IsProgram program → moment.frame.code ≡ start.frame.code
     → Some body ≡ body_at program (code_of start.frame.code) → lines ≡ body.lines → LabelsDiffer lines → EndsInTerminator lines
     → StandsCrossing program budget moment → StandsAtLine program moment.frame None → ReadsCrossing program moment body (get_or lines moment.frame.place default)

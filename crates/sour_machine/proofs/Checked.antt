@@ -18,6 +18,7 @@ pub record IsTextBody (functions : List Function) (body : BodyView) : Type 0 whe
   pub labels : AllByRecursion (λ line. IsPlainName line.label) body.lines
   pub exits : HasExits functions [] body
 
+-- a letter or `_` is not the byte with which an anchor's label begins
 anchor-byte : (byte : ℕ) (test : Bool) → nat_eq byte 64 ≡ test → IsTrue (is_ascii_alphabetic byte || nat_eq byte 95) → test ≡ false
 anchor-byte byte false is plain = refl
 anchor-byte byte true is plain =
@@ -30,6 +31,7 @@ pub plain-anchor : (name : List ℕ) → IsPlainName name → is_anchor name ≡
 plain-anchor [] plain = absurd plain.begins
 plain-anchor (byte ∷ bytes) plain = anchor-byte byte (nat_eq byte 64) refl plain.begins
 
+-- what is found at a place among some functions of a program is the function that has some number
 function_at : (functions : List Function) (number : ℕ) (some : List Function) (place : ℕ) (function : Function) → AreFunctions functions number some → slice_get some place ≡ Some function
     → (n : ℕ) × IsFunction functions n function
 function_at functions number [] place function are found = cc
@@ -39,6 +41,7 @@ function_at functions number (first ∷ some) zero function are found =
     (number, subst Is same are.0)
 function_at functions number (first ∷ some) (suc place) function are found = function_at functions (suc number) some place function are.1 found
 
+-- the body of a version of a function has plain labels, and exits that lead where they may
 version_at : (functions : List Function) (number : ℕ) (parameters : List (List ℕ)) (versions : List Version) (place : ℕ) (body : BodyView) → AllByRecursion (IsVersion functions number parameters) versions
     → version_body (slice_get versions place) ≡ Some body → IsTextBody functions body
 version_at functions number parameters [] place body all runs = cc
@@ -48,6 +51,7 @@ version_at functions number parameters (version ∷ versions) zero body all runs
     subst Is same (record { labels = all.0.labels; exits = all.0.exits })
 version_at functions number parameters (version ∷ versions) (suc place) body all runs = version_at functions number parameters versions place body all.1 runs
 
+-- so has the body that is found for a version, if what is found for its function is one of the program
 text_at : (functions : List Function) (found : Option Function) (version : ℕ) (body : BodyView) → ((function : Function) → found ≡ Some function → (n : ℕ) × IsFunction functions n function)
     → text_body found version ≡ Some body → IsTextBody functions body
 text_at functions None version body each runs = cc

@@ -26,14 +26,17 @@ pub All-append : {X : Type 0} (P : X → Type 0) (xs ys : List X) → AllByRecur
 All-append P [] ys all others = others
 All-append P (x ∷ xs) ys all others = (all.0, All-append P xs ys all.1 others)
 
+-- what holds of each of some with others behind them holds of each of the ones in front
 pub All-before : {X : Type 0} (P : X → Type 0) (xs ys : List X) → AllByRecursion P (xs ++ ys) → AllByRecursion P xs
 All-before P [] ys all = tt {0}
 All-before P (x ∷ xs) ys all = (all.0, All-before P xs ys all.1)
 
+-- and of each of the others behind
 pub All-behind : {X : Type 0} (P : X → Type 0) (xs ys : List X) → AllByRecursion P (xs ++ ys) → AllByRecursion P ys
 All-behind P [] ys all = all
 All-behind P (x ∷ xs) ys all = All-behind P xs ys all.1
 
+-- what follows from what holds of each element of a list holds of each of them too
 pub All-weaker : {X : Type 0} (P Q : X → Type 0) (xs : List X) → ((x : X) → P x → Q x) → AllByRecursion P xs → AllByRecursion Q xs
 All-weaker P Q [] weaker all = tt {0}
 All-weaker P Q (x ∷ xs) weaker all = (weaker x all.0, All-weaker P Q xs weaker all.1)
@@ -47,10 +50,12 @@ scope_of-values : (values : List Value) → scope_of (map Some values) ≡ repli
 scope_of-values [] = refl
 scope_of-values (value ∷ values) = ap (λ rest. true ∷ rest) (scope_of-values values)
 
+-- where variables have no value, none of them is in scope
 scope_of-empty : (count : ℕ) → scope_of (replicate count None) ≡ replicate count false
 scope_of-empty zero = refl
 scope_of-empty (suc count) = ap (λ rest. false ∷ rest) (scope_of-empty count)
 
+-- the first environment of a body, with a value for each parameter, has the scope of its first line
 pub scope_of-first : (body : BodyView) (values : List Value) → length values ≡ body.parameters → scope_of (first_environment body values) ≡ first_scope body
 scope_of-first body values taken =
     map-append is_some (map Some values) (replicate (length body.variables - length values) None)
@@ -58,6 +63,7 @@ scope_of-first body values taken =
     ∙ ap (λ behind. replicate (length values) true ++ behind) (scope_of-empty (length body.variables - length values))
     ∙ ap (λ count. replicate count true ++ replicate (length body.variables - count) false) taken
 
+-- and it has one place for each variable of the body, if there are no more values than that
 pub length-first : (body : BodyView) (values : List Value) → length values ≤ length body.variables → length (first_environment body values) ≡ length body.variables
 length-first body values within =
     let front : length (map {B = Option Value} Some values) ≡ length values = length-map values Some in

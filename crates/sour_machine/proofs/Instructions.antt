@@ -51,15 +51,18 @@ pub act-exit : (program : ProgramView) (frame : Frame) (es : List Expr) (exit : 
     → act program text_choice frame (Assume es exit) next s ≡ leaves program frame exit (takes_turn s)
 act-exit program frame es exit next s out plain = act-leaves program frame es exit next s out ∙ ap (λ anchor. leaves program frame exit (takes_exit_turn anchor s)) plain
 
+-- whether a value comes or a trap, no turn is counted, if none is counted whatever the value
 turns-given : {A : Type 0} (outcome : Result A Trap) (onward : A → State) (s : State) → ((value : A) → (onward value).turns ≡ s.turns) → (given outcome onward s).turns ≡ s.turns
 turns-given (Ok value) onward s same = same value
 turns-given (Err trap) onward s same = refl
 
+-- to go to the one label or the other by a truth value, or to trap for want of one, counts no turn
 turns-truths : (found : Option Bool) (first second : List ℕ) (s : State) → (branches found first second s).turns ≡ s.turns
 turns-truths None first second s = refl
 turns-truths (Some true) first second s = refl
 turns-truths (Some false) first second s = refl
 
+-- and none is counted to go by what was evaluated, be that a value or a trap
 turns-branches : (outcome : Result Value Trap) (first second : List ℕ) (s : State) → (given outcome (λ value. branches (truth_in value) first second s) s).turns ≡ s.turns
 turns-branches (Ok value) first second s = turns-truths (truth_in value) first second s
 turns-branches (Err trap) first second s = refl
@@ -73,15 +76,18 @@ turns-cond : (test : Bool) (s t : State) (turns : ℕ) → s.turns ≡ turns →
 turns-cond true s t turns one other = one
 turns-cond false s t turns one other = other
 
+-- no turn is counted where a body is entered, or where it is missing or takes another number of values
 turns-enters : (x : VarId) (code : FrameCode) (found : Option BodyView) (values : List Value) (next : List ℕ) (s : State) → (enters x code found values next s).turns ≡ s.turns
 turns-enters x code None values next s = refl
 turns-enters x code (Some body) values next s =
     turns-cond (nat_eq (length values) body.parameters) (record s { frames = entered_frame code body values ∷ waits_for x next s.frames }) (ends (trapped ArgCount) s) s.turns refl refl
 
+-- nor where a function is called, or there is none to call
 turns-calls : (program : ProgramView) (entry : Entry) (x : VarId) (found : Option FunId) (values : List Value) (next : List ℕ) (s : State) → (calls program entry x found values next s).turns ≡ s.turns
 turns-calls program entry x None values next s = refl
 turns-calls program entry x (Some f) values next s = turns-enters x (entered_code entry f) (body_at program (entered_code entry f)) values next s
 
+-- nor where it is called with what was evaluated, be that values or a trap
 turns-given_calls : (program : ProgramView) (entry : Entry) (x : VarId) (found : Option FunId) (outcome : Result (List Value) Trap) (next : List ℕ) (s : State) → (given outcome (λ values. calls program entry x found values next s) s).turns ≡ s.turns
 turns-given_calls program entry x found (Ok values) next s = turns-calls program entry x found values next s
 turns-given_calls program entry x found (Err trap) next s = refl
@@ -91,15 +97,18 @@ pub turns_call : (x : VarId) (callee : Simple) (es : List Expr) → AlwaysTakesT
 turns_call x callee es program choice frame next s =
     turns-given_calls program choice.entry x (function_in (operand frame.environment callee)) (eval_each frame.environment s.heap es) next (takes_turn s)
 
+-- no turn is counted where a frame below is given a result, whether or not one was waited for
 turns-resumes : (value : Value) (frame : Frame) (frames : List Frame) (waits : Option ℕ) (s : State) → (resumes value frame frames waits s).turns ≡ s.turns
 turns-resumes value frame frames None s = refl
 turns-resumes value frame frames (Some x) s = refl
 
+-- nor where the top frame is ended with a value
 turns-returns : (value : Value) (frames : List Frame) (s : State) → (returns value frames s).turns ≡ s.turns
 turns-returns value [] s = refl
 turns-returns value (frame ∷ []) s = refl
 turns-returns value (frame ∷ below ∷ frames) s = turns-resumes value below frames below.waits s
 
+-- nor where it is ended with what was evaluated, be that a value or a trap
 turns-given_returns : (outcome : Result Value Trap) (frames : List Frame) (s : State) → (given outcome (λ value. returns value frames s) s).turns ≡ s.turns
 turns-given_returns (Ok value) frames s = turns-returns value frames s
 turns-given_returns (Err trap) frames s = refl
@@ -176,6 +185,7 @@ calls_none-out (Return e) environment heap out = absurd out
 calls_none-out Stop environment heap out = absurd out
 calls_none-out (Assume es exit) environment heap out = refl
 
+-- leaving by an exit counts no turn by itself
 turns-leaves : (program : ProgramView) (frame : Frame) (exit : Exit) (s : State) → (leaves program frame exit s).turns ≡ s.turns
 turns-leaves program frame exit s = turns-given (landed_frames program frame s.heap (continuations exit)) (λ landed. record s { frames = replaces_top landed s.frames }) s (λ landed. refl)
 
@@ -184,6 +194,7 @@ turns-assumes : (program : ProgramView) (frame : Frame) (exit : Exit) (next : Li
 turns-assumes program frame exit next s plain =
     turns-leaves program frame exit (takes_exit_turn (is_anchor frame.label) s) ∙ ap (λ anchor. (takes_exit_turn anchor s).turns) plain
 
+-- where the predicates of an assume hold or trap, a run of the text counts no turn
 turns-stays : (program : ProgramView) (frame : Frame) (exit : Exit) (next : List ℕ) (s : State) (outcome : Result Bool Trap) → (outcome ≡ Ok false → ⊥)
     → (given outcome (λ holds. assumes program frame exit next (stays text_choice frame.label holds) s) s).turns ≡ s.turns
 turns-stays program frame exit next s (Ok true) inside = refl

@@ -40,6 +40,7 @@ pub state_at_place : (program : ProgramView) (input : List Literal) (moment : Mo
 state_at_place program input moment label place at =
     ap (λ (label : List ℕ). goes_to label (state_at program input moment)) (label_at-IsPlaceOf (frame_lines program moment.frame) label place at)
 
+-- where a list has an element, what is made of it is among what is made of each
 Contains-map : {X Y : Type 0} (f : X → Y) (xs : List X) (x : X) → Contains xs x → Contains (map f xs) (f x)
 Contains-map f [] x (k, within, found) = absurd (omega arith)
 Contains-map f (first ∷ xs) x (zero, within, found) = (zero, omega arith, ap f found)

@@ -30,6 +30,7 @@ use Rattle.sour_machine.specs.Landing.{continuation}
 use Rattle.sour_machine.specs.Leaving.{StandsAtInstr, LeavesFor, LeavesForEach}
 use Rattle.sour_machine.proofs.LeavingLaws.{body_at-exit}
 
+-- where a line is found at a place, there is a body that has it there
 line_in : (found : Option BodyView) (place : ℕ) (line : Line) → slice_get (body_or_empty found).lines place ≡ Some line → (body : BodyView) × (found ≡ Some body) × (slice_get body.lines place ≡ Some line)
 line_in None place line at = cc
 line_in (Some body) place line at = (body, refl, at)

@@ -42,10 +42,12 @@ use Rattle.sour_machine.specs.Leaving.{bound_row}
 use Rattle.sour_machine.specs.Moment.{state_at}
 use Rattle.sour_machine.proofs.Scopes.{scope_of-set}
 
+-- behind all the elements of a list there is nothing left
 drop-all : {X : Type 0} (xs : List X) → drop (length xs) xs ≡ []
 drop-all [] = refl
 drop-all (x ∷ xs) = drop-all xs
 
+-- from a place of a list on stand the element at it and those from the next place on
 drop-at : {X : Type 0} (xs : List X) (place : ℕ) (other : X) → place < length xs → drop place xs ≡ get_or xs place other ∷ drop (place + 1) xs
 drop-at xs place other within = rw (add-one, drop-cons xs place other)
 
@@ -59,6 +61,7 @@ abbrev pub IsBoundOnto : Environment → Heap → List Bind → Result Environme
 IsBoundOnto environment heap binds whole row place =
     whole ≡ bound_onto row (bound_names (drop place binds)) (eval_each environment heap (bound_values (drop place binds)))
 
+-- a map whose first value is known makes of a row what its rest makes of the row with that value
 bound_onto-value : (row : Environment) (names : List VarId) (x : VarId) (value : Value) (others : Result (List Value) Trap)
     → bound_onto row (x ∷ names) (in_front (Ok value) others) ≡ bound_onto (set row x.0 (Some value)) names others
 bound_onto-value row names x value (Ok values) = refl
@@ -93,6 +96,7 @@ bound_row-values : (count : ℕ) (names : List VarId) (evaluated : Result (List 
 bound_row-values count names (Ok values) row is = (values, refl, cc)
 bound_row-values count names (Err trap) row is = cc
 
+-- a value in front of so many others makes one more, if none of them is a trap
 counted_in_front : (first : Result Value Trap) (others : Result (List Value) Trap) (count : ℕ) (values : List Value) → ((some : List Value) → others ≡ Ok some → length some ≡ count)
     → in_front first others ≡ Ok values → length values ≡ suc count
 counted_in_front (Ok value) (Ok some) count values each is =
@@ -108,10 +112,12 @@ length-eval_each environment heap [] values is = let same : [] ≡ values = cc i
 length-eval_each environment heap (e ∷ es) values is =
     counted_in_front (eval environment heap e) (eval_each environment heap es) (length es) values (length-eval_each environment heap es) is
 
+-- where the values of a map were evaluated, there are as many as it has names
 pub length-bound_values : (environment : Environment) (heap : Heap) (binds : List Bind) (values : List Value) → eval_each environment heap (bound_values binds) ≡ Ok values → length values ≡ length (bound_names binds)
 length-bound_values environment heap binds values is =
     length-eval_each environment heap (bound_values binds) values is ∙ length-map binds (λ (bind : Bind). bind.value) ∙ sym (length-map binds (λ (bind : Bind). bind.name))
 
+-- a row in which some variables got values has as many places as before
 length-bound : (row : Environment) (names : List VarId) (values : List Value) → length (bound row names values) ≡ length row
 length-bound row [] values = refl
 length-bound row (x ∷ xs) [] = refl
@@ -130,14 +136,17 @@ abbrev marked : Scope → List VarId → Scope
 marked scope [] = scope
 marked scope (x ∷ xs) = marked (set scope x.0 true) xs
 
+-- a variable may come into a scope before some others or after them
 marked-set : (scope : Scope) (x : VarId) (xs : List VarId) → marked (set scope x.0 true) xs ≡ set (marked scope xs) x.0 true
 marked-set scope x [] = refl
 marked-set scope x (y ∷ ys) = ap (λ scope. marked scope ys) (set-set scope x.0 y.0) ∙ marked-set (set scope y.0 true) x ys
 
+-- the scope in which some variables are is the one without any into which they come in turn
 scope_of_names-marked : (count : ℕ) (names : List VarId) → scope_of_names count names ≡ marked (replicate count false) names
 scope_of_names-marked count [] = refl
 scope_of_names-marked count (x ∷ xs) = ap (λ scope. set scope x.0 true) (scope_of_names-marked count xs) ∙ sym (marked-set (replicate count false) x xs)
 
+-- where some variables get as many values in a row, they come into its scope in turn
 scope_of-bound : (row : Environment) (names : List VarId) (values : List Value) → length values ≡ length names → scope_of (bound row names values) ≡ marked (scope_of row) names
 scope_of-bound row [] values counts = refl
 scope_of-bound row (x ∷ xs) [] counts = absurd (omega arith)
@@ -145,6 +154,7 @@ scope_of-bound row (x ∷ xs) (value ∷ values) counts =
     scope_of-bound (set row x.0 (Some value)) xs values (omega arith)
     ∙ ap (λ scope. marked scope xs) (scope_of-set row (set row x.0 (Some value)) x.0 (Some value) refl)
 
+-- a row that has no values has a scope in which there is no variable
 scope_of-none : (count : ℕ) → scope_of (replicate count None) ≡ replicate count false
 scope_of-none zero = refl
 scope_of-none (suc count) = ap (λ rest. false ∷ rest) (scope_of-none count)
@@ -239,6 +249,7 @@ StandsFor-Makes program code target binds body values frame waits makes counts n
       place = subst Within (sym row) named_within;
     }
 
+-- a frame that stands at its line and waits for a variable stands there as a waiting frame with that result
 pub StandsWaiting-StandsFor : (program : ProgramView) (frame : Activation) (x : VarId) → StandsFor program (Some x.0) frame → StandsWaiting program (record { frame = frame; result = x })
 StandsWaiting-StandsFor program frame x stands = record { at_line = stands.at_line; place = stands.place }
 
@@ -258,6 +269,7 @@ abbrev pub behind_frames : List state.Frame → Result (List state.Frame) Trap �
 behind_frames done (Ok frames) = Ok (done ++ frames)
 behind_frames done (Err trap) = Err trap
 
+-- a frame in front of the others is as well the last of those that were made before them
 behind_frames-one : (done : List state.Frame) (frame : state.Frame) (others : Result (List state.Frame) Trap) → behind_frames done (in_front (Ok frame) others) ≡ behind_frames (done ++ frame ∷ []) others
 behind_frames-one done frame (Ok frames) = simp append_assoc
 behind_frames-one done frame (Err trap) = refl
@@ -291,6 +303,7 @@ extra_at-map P [] place other within all = absurd (omega arith)
 extra_at-map P (extra ∷ extras) zero other within all = all.0
 extra_at-map P (extra ∷ extras) (suc place) other within all = extra_at-map P extras place other (omega arith) all.1
 
+-- what is made of each element of a reversed list is the reverse of what is made of each
 map-reverse : {X Y : Type 0} (f : X → Y) (xs : List X) → map f (reverse xs) ≡ reverse (map f xs)
 map-reverse f [] = refl
 map-reverse f (x ∷ xs) =
@@ -308,6 +321,7 @@ frames_below f below added =
 abbrev pub left_by : Moment → Landed → Moment
 left_by old landed = record old { frame = landed.top; below = old.below ++ reverse landed.extras; turns = old.turns + 1 }
 
+-- where these are the exit's frames, its state is that of the old one, which took a turn and left by the exit
 pub state_at-left : (program : ProgramView) (input : List Literal) (old : Moment) (exit : Exit) (made : Landed)
     → landed_frames program (frame_at program old.frame None) old.heap (continuations exit) ≡ made_frames program (Ok made)
     → state_at program input (left_by old made) ≡ leaves program (frame_at program old.frame None) exit (takes_turn (state_at program input old))
@@ -317,12 +331,14 @@ state_at-left program input old exit made lands =
     ap (λ below. replaced (frame_at program made.top None ∷ below)) (frames_below (waiting_at program) old.below made.extras)
     ∙ sym (ap (λ frames. given frames (λ landed. replaced (replaces_top landed s.frames)) s) lands)
 
+-- what holds of each element of a list holds of each of the reversed list
 All-reverse : {X : Type 0} (P : X → Type 0) (xs : List X) → AllByRecursion P xs → AllByRecursion P (reverse xs)
 All-reverse P [] all = tt {0}
 All-reverse {X = X} P (x ∷ xs) all =
     let Each : List X → Type 0 = AllByRecursion P in
     subst Each (sym (reverse_onto xs x [])) (all_joined P (reverse xs) (x ∷ []) (All-reverse P xs all.1) (all.0, tt {0}))
 
+-- in that moment a frame was left by an exit, if the frames that took its place stand at their lines
 pub LeavesBy-left : (program : ProgramView) (old : Moment) (made : Landed) → StandsAtLine program made.top None → AllByRecursion (StandsWaiting program) made.extras → LeavesBy program old (left_by old made)
 LeavesBy-left program old made top extras = record {
   top = λ going. top;

@@ -26,6 +26,7 @@ before budget lines moment = unless_over moment.end ((budget - moment.turns) * (
 less : (few many each p q : ℕ) → few < many → p < each → few * each + p < many * each + q
 less few many each p q fewer within = omega (arith, mul-add-lt few each p many fewer within, mul_comm each many)
 
+-- what is before a run is less than something above 0, if it is so while the run goes on
 below : (end : End) (left all : ℕ) → 0 < all → (end ≡ Cut → left < all) → unless_over end left < all
 below Cut left all some going = going refl
 below (Returned value) left all some going = some

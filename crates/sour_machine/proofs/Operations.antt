@@ -14,6 +14,7 @@ use Rattle.sour_syntax.specs.declared.trap.Trap.{Trap}
 use Rattle.sour_syntax.specs.declared.trap.Trap.TheVariants.{ZeroDivisor}
 use Rattle.sour_semantics.specs.Evaluation.{number, divided}
 
+-- the test whether a number is 0 says no where it is another
 tested : (b : ℤ) (test : Bool) → int_eq b (pos 0) ≡ test → b ≢ pos 0 → test ≡ false
 tested b true is other = absurd (other ((Decides-int_eq b (pos 0)).0 is))
 tested b false is other = refl
@@ -29,10 +30,12 @@ remainder-int_rem a b =
     let swapped : int_div a b *ℤ b ≡ b *ℤ int_div a b = *ℤ_comm (int_div a b) b in
     omega (arith, ints, product, swapped)
 
+-- numbers other than 0 have absolute values above it
 nonzero-abs : (b : ℤ) → b ≢ pos 0 → 0 < unsigned_abs b
 nonzero-abs (pos n) other = let positive : n ≢ 0 = λ zero. other (ap pos zero) in omega (arith, positive)
 nonzero-abs (negsuc n) other = omega arith
 
+-- and those of numbers in i64 are no greater than 2 to the power of 63
 abs-fits : (b : ℤ) → FitsSigned w64 b → unsigned_abs b ≤ 2 ^ 63
 abs-fits (pos n) fits = omega (arith, fits)
 abs-fits (negsuc n) fits = omega (arith, fits)
@@ -43,10 +46,12 @@ fits-int_rem a b other fits =
     let below : unsigned_abs (int_rem a b) < 2 ^ 63 = omega (arith, rem_below a b (nonzero-abs b other), abs-fits b fits) in
     fits_signed_from_abs w64 (int_rem a b) below
 
+-- a number that lies in i64 comes to itself, and to no trap
 pub number-fits : (z : ℤ) → FitsSigned w64 z → number z ≡ Ok (Plain (Number z))
 number-fits (pos n) fits = grind (arith, nat_tests, fits)
 number-fits (negsuc n) fits = grind (arith, nat_tests, fits)
 
+-- a number that is there exactly where one thing holds is there exactly where an equivalent one holds
 changed : {P Q : Type 0} (whole : Option ℤ) (z : ℤ) → (P → Q) → (Q → P) → SomeIff whole P z → SomeIff whole Q z
 changed None z there back told = λ q. told (back q)
 changed (Some number) z there back told = (there told.0, told.1)

@@ -18,11 +18,13 @@ pub OnErr-any : {X E : Type 0} {P : Type 0} (outcome : Result X E) → P → OnE
 OnErr-any (Ok value) holds = tt {0}
 OnErr-any (Err why) holds = holds
 
+-- what counts one where three things are true counts none where the third is not
 none : (going on : Bool) → ◌≡◌ {A = ℕ} (cond (going && on && false) 1 0) 0
 none true true = refl
 none true false = refl
 none false on = refl
 
+-- nor where the second is not
 none_over : (going calls : Bool) → ◌≡◌ {A = ℕ} (cond (going && false && calls) 1 0) 0
 none_over true calls = refl
 none_over false calls = refl
@@ -35,6 +37,7 @@ text_run-add program (suc m) n s =
     let one : suc m + n ≡ suc (m + n) = omega arith in
     ap (λ count. text_run program count s) one ∙ text_run-add program m n (step program text_choice s)
 
+-- in some steps and then others as many frames are entered as in the ones and the others together
 count_calls-add : (program : ProgramView) (m n : ℕ) (s : State) → count_calls program (m + n) s ≡ count_calls program m s + count_calls program n (text_run program m s)
 count_calls-add program zero n s =
     let none : zero + n ≡ n = omega arith in

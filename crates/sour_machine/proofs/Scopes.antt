@@ -28,6 +28,7 @@ set-same scope place found =
 pub scope_of-set : (old new : Environment) (x : ℕ) (kept : Option Value) → new ≡ set old x kept → scope_of new ≡ set (scope_of old) x (is_some kept)
 scope_of-set old new x kept is = ap scope_of is ∙ map-set is_some old x kept
 
+-- an environment in which a variable got a value, or lost it, has as many places as before
 pub row-set : (old new : Environment) (x : ℕ) (kept : Option Value) → new ≡ set old x kept → length new ≡ length old
 row-set old new x kept is = ap length is ∙ length-set old x kept
 

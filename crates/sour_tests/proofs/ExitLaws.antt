@@ -34,6 +34,7 @@ HasStart-body functions body start place count found is at counts two =
       variables = sym counts ∙ eqb-true count 2 two;
     }
 
+-- a frame made at that line, where one of both variables gets a value and one may wait, names what is there
 named_there : (functions : List Function) (start : HasStart functions) (x : VarId) (value : Expr) (waits : Option ℕ) → x.0 < 2 → IfSome waits (λ x. x < 2)
     → IsNamed functions [] (record { target = main_target; binds = record { name = x; value = value } ∷ []; waits = waits })
 named_there functions start x value waits within result =
@@ -57,11 +58,13 @@ named-main_exit functions start first second third = (
   ),
 )
 
+-- each of two variables is in the scope that has both
 in_scope : (x : ℕ) → x < 2 → slice_get (true ∷ true ∷ []) x ≡ Some true
 in_scope zero within = refl
 in_scope (suc zero) within = refl
 in_scope (suc (suc x)) within = absurd (omega arith)
 
+-- and so is each of a list of such variables
 all_in_scope : (xs : List VarId) → AllByRecursion (λ x. x.0 < 2) xs → AllByRecursion (IsInScope (true ∷ true ∷ [])) xs
 all_in_scope [] all = tt {0}
 all_in_scope (x ∷ xs) all = (in_scope x.0 all.0, all_in_scope xs all.1)
@@ -83,6 +86,7 @@ named-exit functions start exit first second third is =
     let Named : Exit → Type 0 = λ exit. AllByRecursion (IsNamed functions []) (continuations exit) in
     subst Named (sym is) (named-main_exit functions start first second third)
 
+-- and where both variables have values, so have those of an exit that is this one
 pub values-exit : (scope : Scope) (exit : Exit) (first second third : Expr) → exit ≡ main_exit first second third → scope ≡ true ∷ true ∷ [] → IsOfTwo first → IsOfTwo second → IsOfTwo third
     → AllByRecursion (IsInScope scope) (variables_of_each (exit_values exit))
 values-exit scope exit first second third is both one two three =

@@ -30,6 +30,7 @@ pub first_label-at : (lines : List Line) (line : Line) → slice_get lines 0 ≡
 first_label-at [] line found = cc
 first_label-at (first ∷ lines) line found = let same : first ≡ line = cc in ap (λ (line : Line). line.label) same
 
+-- lines that begin with the label of main's first line have it among their labels
 first_contained : (lines : List Line) → first_label lines ≡ main_start → Contains (labels_of lines) main_start
 first_contained [] is = cc
 first_contained (line ∷ lines) is = (zero, omega arith, is)
