@@ -113,7 +113,7 @@ turns-given_returns : (outcome : Result Value Trap) (frames : List Frame) (s : S
 turns-given_returns (Ok value) frames s = turns-returns value frames s
 turns-given_returns (Err trap) frames s = refl
 
--- and so does a return
+-- a return takes a turn, whatever its expression comes to
 pub turns_return : (expr : Expr) → AlwaysTakesTurn (Return expr)
 turns_return expr program choice frame next s = turns-given_returns (eval frame.environment s.heap expr) s.frames (takes_turn s)
 

@@ -40,7 +40,7 @@ abs-fits : (b : ℤ) → FitsSigned w64 b → unsigned_abs b ≤ 2 ^ 63
 abs-fits (pos n) fits = omega (arith, fits)
 abs-fits (negsuc n) fits = omega (arith, fits)
 
--- it lies in i64
+-- what a division leaves lies in i64, if the divisor does and is not 0
 pub fits-int_rem : (a b : ℤ) → b ≢ pos 0 → FitsSigned w64 b → FitsSigned w64 (int_rem a b)
 fits-int_rem a b other fits =
     let below : unsigned_abs (int_rem a b) < 2 ^ 63 = omega (arith, rem_below a b (nonzero-abs b other), abs-fits b fits) in
