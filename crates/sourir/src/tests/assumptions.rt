@@ -62,23 +62,15 @@ const NESTED: &str =
 
 #[test]
 fn texts_with_plans_run_as_the_text_says(rt: HostRuntime) -> Result<(), Fail> {
-    for (budget, text, written, status) in [
-        ("1000000", TRAPS, "input 1\ntrap 2\ninput 2\ntrap 3\n", 1),
+    for (text, written, status) in [
+        (TRAPS, "input 1\ntrap 2\ninput 2\ntrap 3\n", 1),
         (
-            "1000000",
             NESTED,
             "input 1\nend 36\ninput 2\nend 36\ninput 3\nend 36\ninput 4\nend 36\ninput 5\nend 24\n",
             0,
         ),
     ] {
-        expect(
-            &rt,
-            rt.alloc(),
-            &["run", "--budget", budget],
-            text,
-            written,
-            status,
-        )?;
+        expect(&rt, rt.alloc(), &["run"], text, written, status)?;
     }
     Ok(())
 }
