@@ -1,7 +1,8 @@
 -- What the loop over the lines of a body keeps, and what its answers say.
 use Rattle.std.proofs.Common.{◌≡◌, ◌≢◌, ◌⊎◌, ℕ, zero, suc, ◌+◌, ◌<◌, ◌≤◌, List, [], ◌∷◌, Bool, true, false, None, Some, get_or, length, drop, map, reverse, Contains, refl, sym, ap, ◌∙◌, subst, inr, arith}
-use Rattle.std.specs.Prelude.{MatchBool}
+use Rattle.std.specs.Prelude.{IsTrue}
 use Rattle.std.specs.List.{AllByRecursion, slice_get}
+use Rattle.std.proofs.lemmas.Bool.{false≢true}
 use Rattle.std.proofs.lemmas.Option.{slice_get-get_or}
 use Rattle.sour_syntax.specs.declared.instruction.Instr.{Instr}
 use Rattle.sour_syntax.specs.declared.instruction.Instr.TheVariants.{Var, Drop, Assign, ArrayLength, ArrayList, Store, Print, Read, Branch, Goto, Call, Return, Stop, Assume}
@@ -17,9 +18,9 @@ use Rattle.sour_syntax.specs.Spread.{following}
 use Rattle.sour_syntax.specs.Targets.{IsNamed, Lands}
 use Rattle.sour_syntax.specs.Terminator.{EndsInTerminator}
 use Rattle.sour_syntax.specs.Program.{ProgramView, IsPlainName, IsProgram}
-use Rattle.sour_semantics.specs.State.{Environment, Frame, State, text}
+use Rattle.sour_semantics.specs.State.{Environment, State}
 use Rattle.sour_semantics.specs.Step.{text_choice, body_or_empty, body_at, body_of, is_anchor, act, step}
-use Rattle.sour_semantics.specs.Run.{start, TakesTurn}
+use Rattle.sour_semantics.specs.Run.{TakesTurn}
 use Rattle.sour_semantics.specs.Validity.{scope_of}
 use Rattle.sour_semantics.proofs.Places.{step-at_place}
 use Rattle.sour_syntax.proofs.LabelPlaces.{from_label-first_label-drop, drop-slice_get, lt-EndsInTerminator}
@@ -30,15 +31,15 @@ use Rattle.sour_machine.specs.declared.report.End.{End}
 use Rattle.sour_machine.specs.declared.report.End.TheVariants.{Returned, Stopped, Trapped, Cut, Memory}
 use Rattle.sour_machine.specs.End.{ending_of, is_memory}
 use Rattle.sour_machine.specs.Frame.{code_of, frame_lines, frame_at, waiting_at, StandsAtLine, StandsWaiting}
-use Rattle.sour_machine.specs.Instruction.{IsReady, ActsAs, IsCrossing, LeadsOut, GoesFurther, ComesTo, StaysInFrame, AlwaysTakesTurn, StaysWithoutTurn, StandsCrossing}
+use Rattle.sour_machine.specs.Instruction.{IsReady, ActsAs, IsCrossing, LeadsOut, GoesFurther, ComesTo, StaysInFrame, StandsCrossing, jump_at, jumps_away, turns_after}
 use Rattle.sour_machine.specs.Moment.{state_at, run_at, Stands}
 use Rattle.sour_machine.specs.Run.{GoesOn, IsAtTurns, is_call, first_calls, top_calls}
-use Rattle.sour_machine.specs.Want.{TakesMemory, WantsMemory}
+use Rattle.sour_machine.specs.Want.{TakesMemoryInside, TakesMemory, WantsMemory}
 use Rattle.sour_machine.proofs.Checked.{IsTextBody-runs, plain-anchor}
 use Rattle.sour_machine.proofs.Scopes.{All-at}
 use Rattle.sour_machine.proofs.FrameLaws.{frame_lines-are}
-use Rattle.sour_machine.proofs.Jumps.{GoesTo-at, Contains-following_labels, All-Contains, Contains-one}
-use Rattle.sour_machine.proofs.Instructions.{turns_branch, turns_crossing, crossing-stays, turns-out}
+use Rattle.sour_machine.proofs.Jumps.{GoesTo-at, length-GoTo, Contains-following_labels, All-Contains, Contains-one}
+use Rattle.sour_machine.proofs.Instructions.{turns_jumping, turns_inside, turns-crosses}
 use Rattle.sour_machine.proofs.Measure.{before, before-turn, before-line}
 use Rattle.sour_machine.proofs.RunLaws.{entered-none, GoesOn-one, GoesOn-on}
 
@@ -91,29 +92,34 @@ IsAt-lines program moment body lines default checked body_is lines_are differ te
     }
 
 -- and where it goes by name
-pub GoesTo-jumps : (program : ProgramView) (moment : Moment) (line : Line) (body : BodyView) (jumps : List Jump) (other : Jump) → IsAt program moment line → body_of program (code_of moment.frame.code) ≡ body
-    → GoTo body.lines body.lines jumps → GoesTo (frame_lines program moment.frame) line.instr (get_or jumps moment.frame.place other)
-GoesTo-jumps program moment line body jumps other at body_is go =
+pub GoesTo-jumps : (program : ProgramView) (moment : Moment) (line : Line) (body : BodyView) (jumps : List Jump) → IsAt program moment line → body_of program (code_of moment.frame.code) ≡ body
+    → GoTo body.lines body.lines jumps → GoesTo (frame_lines program moment.frame) line.instr (jump_at jumps moment.frame.place)
+GoesTo-jumps program moment line body jumps at body_is go =
     let Go : BodyView → Type 0 = λ body. GoTo body.lines body.lines jumps in
-    GoesTo-at (frame_lines program moment.frame) (frame_lines program moment.frame) jumps moment.frame.place line other (subst Go (sym body_is) go) at.found
+    GoesTo-at (frame_lines program moment.frame) (frame_lines program moment.frame) jumps moment.frame.place line (record { first = 0; second = 0 }) (subst Go (sym body_is) go) at.found
 
--- the line and the jump that the loop reads
-pub record Reads (program : ProgramView) (moment : Moment) (body : BodyView) (line : Line) (jump : Jump) : Type 0 where
+-- the line that the loop reads, and the jump at its place
+pub record Reads (program : ProgramView) (moment : Moment) (body : BodyView) (line : Line) (jumps : List Jump) : Type 0 where
   pub at : IsAt program moment line
   pub runs : body_of program (code_of moment.frame.code) ≡ body
-  pub goes : GoesTo (frame_lines program moment.frame) line.instr jump
+  pub there : moment.frame.place < length jumps
+  pub goes : GoesTo (frame_lines program moment.frame) line.instr (jump_at jumps moment.frame.place)
 
 -- while the run goes on in a body, they stand at its frame's place among the lines and the jumps of that body
-pub Reads-lines : (program : ProgramView) (start moment : Moment) (body : BodyView) (lines : List Line) (jumps : List Jump) (default : Line) (other : Jump) → IsProgram program → moment.frame.code ≡ start.frame.code
+pub Reads-lines : (program : ProgramView) (start moment : Moment) (body : BodyView) (lines : List Line) (jumps : List Jump) (default : Line) → IsProgram program → moment.frame.code ≡ start.frame.code
     → body_at program (code_of start.frame.code) ≡ Some body → lines ≡ body.lines → LabelsDiffer lines → EndsInTerminator lines
-    → GoTo body.lines body.lines jumps → moment.end ≡ Cut → StandsAtLine program moment.frame None → Reads program moment body (get_or lines moment.frame.place default) (get_or jumps moment.frame.place other)
-Reads-lines program start moment body lines jumps default other checked code runs lines_are differ terminated go going stands =
+    → GoTo body.lines body.lines jumps → moment.end ≡ Cut → StandsAtLine program moment.frame None → Reads program moment body (get_or lines moment.frame.place default) jumps
+Reads-lines program start moment body lines jumps default checked code runs lines_are differ terminated go going stands =
     let body_is : body_of program (code_of moment.frame.code) ≡ body = ap (λ code. body_of program (code_of code)) code ∙ body_of-runs program start body runs in
     let at = IsAt-lines program moment body lines default checked body_is lines_are differ terminated going stands in
+    let all : length (frame_lines program moment.frame) ≡ length body.lines = ap (λ (b : BodyView). length b.lines) body_is in
+    let each : length jumps ≡ length body.lines = length-GoTo body.lines body.lines jumps go in
+    let within : moment.frame.place < length (frame_lines program moment.frame) = at.within in
     record {
       at = at;
       runs = body_is;
-      goes = GoesTo-jumps program moment (get_or lines moment.frame.place default) body jumps other at body_is go;
+      there = omega (arith, all, each, within);
+      goes = GoesTo-jumps program moment (get_or lines moment.frame.place default) body jumps at body_is go;
     }
 
 -- the line stands at its label
@@ -182,13 +188,13 @@ GoesOn-act program input old mid new line at acts other stays on =
     let none = entered-none program (state_at program input mid) (state_at program input new) (top_calls-line program input mid line at ∙ other) in
     GoesOn-on program input old mid new on (GoesOn-one program input mid new (step-state_at program input mid line at ∙ sym acts) (omega (arith, none, stays.calls)))
 
--- where a line takes no turn unless it leads out, and does not lead out, the next step takes none
-pub turn-none : (program : ProgramView) (input : List Literal) (moment : Moment) (line : Line) → IsAt program moment line → (LeadsOut line.instr moment.frame.env moment.heap → ⊥) → StaysWithoutTurn line.instr
+-- at a line that takes memory in its frame the next step takes no turn
+pub turn-none : (program : ProgramView) (input : List Literal) (moment : Moment) (line : Line) → IsAt program moment line → TakesMemoryInside line.instr
     → TakesTurn program (state_at program input moment) → ⊥
-turn-none program input moment line at inside without takes =
+turn-none program input moment line at inside takes =
     let none : (step program text_choice (state_at program input moment)).turns ≡ moment.turns =
     ap (λ (s : State). s.turns) (step-state_at program input moment line at)
-    ∙ without program (frame_at program moment.frame None) (label_at (frame_lines program moment.frame) (moment.frame.place + 1)) (state_at program input moment) inside in
+    ∙ turns_inside line.instr inside program text_choice (frame_at program moment.frame None) (label_at (frame_lines program moment.frame) (moment.frame.place + 1)) (state_at program input moment) in
     omega (arith, takes, none)
 
 -- the run at a line that wanted memory
@@ -224,94 +230,58 @@ IsAtTurns-line program input moment budget line at takes used =
       rests = inr (ap ending_of at.going, used, omega (arith, more));
     }
 
--- a run that has used its budget up rests at a line whose instruction always takes a turn
-pub IsAtTurns-more : (program : ProgramView) (input : List Literal) (moment : Moment) (budget : ℕ) (line : Line) → IsAt program moment line → AlwaysTakesTurn line.instr
-    → moment.turns ≡ budget → IsAtTurns budget (run_at program input true moment)
-IsAtTurns-more program input moment budget line at always used =
-    IsAtTurns-line program input moment budget line at
-    (always program text_choice (frame_at program moment.frame None) (label_at (frame_lines program moment.frame) (moment.frame.place + 1)) (state_at program input moment)) used
+-- an instruction that goes to a label, enters a frame or leaves one takes a turn
+turns_behind-more : (program : ProgramView) (input : List Literal) (moment : Moment) (line : Line) → IsAt program moment line
+    → IsTrue (jumps_away line.instr) ⊎ IsCrossing line.instr ⊎ LeadsOut line.instr moment.frame.env moment.heap → turns_behind program input moment line ≡ moment.turns + 1
+turns_behind-more program input moment line at (inl jumps) =
+    turns_jumping line.instr jumps program text_choice (frame_at program moment.frame None) (label_at (frame_lines program moment.frame) (moment.frame.place + 1)) (state_at program input moment)
+turns_behind-more program input moment line at (inr crosses) =
+    turns-crosses program (frame_at program moment.frame None) line.instr (label_at (frame_lines program moment.frame) (moment.frame.place + 1)) (state_at program input moment) at.plain crosses
 
--- or would leave by an exit
-pub IsAtTurns-leaving : (program : ProgramView) (input : List Literal) (old new : Moment) (budget : ℕ) (line : Line) → IsAt program old line → LeadsOut line.instr old.frame.env old.heap
-    → new ≡ old → new.turns ≡ budget → (new.end ≡ Cut) × IsAtTurns budget (run_at program input true new)
-IsAtTurns-leaving program input old new budget line at out same used =
+-- so a run that has used its budget up rests there
+pub IsAtTurns-more : (program : ProgramView) (input : List Literal) (old new : Moment) (budget : ℕ) (line : Line) → IsAt program old line
+    → IsTrue (jumps_away line.instr) ⊎ IsCrossing line.instr ⊎ LeadsOut line.instr old.frame.env old.heap → old.turns ≡ budget → new ≡ old
+    → (new.end ≡ Cut) × IsAtTurns budget (run_at program input true new)
+IsAtTurns-more program input old new budget line at more used same =
     let At : Moment → Type 0 = λ moment. (moment.end ≡ Cut) × IsAtTurns budget (run_at program input true moment) in
-    let takes : turns_behind program input old line ≡ old.turns + 1 =
-    turns-out program (frame_at program old.frame None) line.instr (label_at (frame_lines program old.frame) (old.frame.place + 1)) (state_at program input old) at.plain out in
-    subst At (sym same) (at.going, IsAtTurns-line program input old budget line at takes (sym (ap (λ (moment : Moment). moment.turns) same) ∙ used))
+    subst At (sym same) (at.going, IsAtTurns-line program input old budget line at (turns_behind-more program input old line at more) used)
 
--- the turns that an instruction takes
-pub turns-always : (program : ProgramView) (input : List Literal) (old new : Moment) (instr : Instr) → ActsAs program input instr old new → AlwaysTakesTurn instr
-    → new.turns ≡ old.turns + 1
-turns-always program input old new instr acts always =
-    ap (λ (s : State). s.turns) acts
-    ∙ always program text_choice (frame_at program old.frame None) (label_at (frame_lines program old.frame) (old.frame.place + 1)) (state_at program input old)
+-- no turn is taken back
+pub turns-grow : (jumped : Bool) (old new : ℕ) → new ≡ turns_after jumped old → old ≤ new
+turns-grow true old new after = omega (arith, after)
+turns-grow false old new after = omega (arith, after)
 
--- one that takes none unless it leads out, and does not lead out, leaves the turns as they were
-pub turns-without : (program : ProgramView) (input : List Literal) (old new : Moment) (instr : Instr) → ActsAs program input instr old new → (LeadsOut instr old.frame.env old.heap → ⊥) → StaysWithoutTurn instr
-    → new.turns ≡ old.turns
-turns-without program input old new instr acts inside without =
-    ap (λ (s : State). s.turns) acts
-    ∙ without program (frame_at program old.frame None) (label_at (frame_lines program old.frame) (old.frame.place + 1)) (state_at program input old) inside
+-- a run goes on from an instruction that goes to no label to the next line
+next_line : (instr : Instr) (jump : Jump) (next place : ℕ) → jumps_away instr ≡ false → Contains (following instr jump next) place → place ≡ next
+next_line (Var x e) jump next place stays at = Contains-one next place at
+next_line (Drop x) jump next place stays at = Contains-one next place at
+next_line (Assign x e) jump next place stays at = Contains-one next place at
+next_line (ArrayLength x e) jump next place stays at = Contains-one next place at
+next_line (ArrayList x es) jump next place stays at = Contains-one next place at
+next_line (Store x index e) jump next place stays at = Contains-one next place at
+next_line (Print e) jump next place stays at = Contains-one next place at
+next_line (Read x) jump next place stays at = Contains-one next place at
+next_line (Branch e a b) jump next place stays at = absurd (false≢true (sym stays))
+next_line (Goto a) jump next place stays at = absurd (false≢true (sym stays))
+next_line (Call x callee es) jump next place stays at = Contains-one next place at
+next_line (Return e) jump next place stays at = absurd (omega (arith, at.1))
+next_line Stop jump next place stays at = absurd (omega (arith, at.1))
+next_line (Assume es exit) jump next place stays at = Contains-one next place at
 
--- none takes turns back
-pub turns-grow : (program : ProgramView) (input : List Literal) (old new : Moment) (instr : Instr) → ActsAs program input instr old new → (LeadsOut instr old.frame.env old.heap → ⊥) → (test : Bool)
-    → MatchBool test (AlwaysTakesTurn instr) (StaysWithoutTurn instr) → old.turns ≤ new.turns
-turns-grow program input old new instr acts inside true always = omega (arith, turns-always program input old new instr acts always)
-turns-grow program input old new instr acts inside false without = omega (arith, turns-without program input old new instr acts inside without)
+-- less is before a run where it took a turn, and where it took none and went on to the next line
+before-moved : (budget lines : ℕ) (old new : Moment) (jumped : Bool) → old.end ≡ Cut → old.frame.place < lines → new.turns ≡ turns_after jumped old.turns → new.turns ≤ budget
+    → (jumped ≡ false → new.end ≡ Cut → new.frame.place ≡ old.frame.place + 1) → before budget lines new < before budget lines old
+before-moved budget lines old new true going within after left next = before-turn budget lines old new going within (omega (arith, after, left)) after
+before-moved budget lines old new false going within after left next = before-line budget lines old new going within after (next refl)
 
--- some program: one without functions
-abbrev any_program : ProgramView
-any_program = record { functions = []; main = record { 0 = 0 } }
-
--- some frame: one without variables, which waits for nothing
-abbrev any_frame : Frame
-any_frame = record { code = text (record { 0 = 0 }) 0; label = []; environment = []; waits = None }
-
--- no instruction always takes a turn and takes none
-one_of : (instr : Instr) → (LeadsOut instr [] [] → ⊥) → AlwaysTakesTurn instr → StaysWithoutTurn instr → ⊥
-one_of instr inside always without =
-    let s : State = start any_program [] in
-    let one : (act any_program text_choice any_frame instr [] s).turns ≡ s.turns + 1 = always any_program text_choice any_frame [] s in
-    let none : (act any_program text_choice any_frame instr [] s).turns ≡ s.turns = without any_program any_frame [] s inside in
-    omega (arith, one, none)
-
--- a call or a return takes a turn
-pub takes-crossing : (instr : Instr) → IsCrossing instr → (test : Bool) → MatchBool test (AlwaysTakesTurn instr) (StaysWithoutTurn instr) → test ≡ true
-takes-crossing instr crosses true always = refl
-takes-crossing instr crosses false without = absurd (one_of instr (crossing-stays instr [] [] crosses) (turns_crossing instr crosses) without)
-
--- a run goes on from an instruction that takes no turn to the next line
-next_line : (instr : Instr) (jump : Jump) (next place : ℕ) → StaysWithoutTurn instr → Contains (following instr jump next) place → place ≡ next
-next_line (Var x e) jump next place without at = Contains-one next place at
-next_line (Drop x) jump next place without at = Contains-one next place at
-next_line (Assign x e) jump next place without at = Contains-one next place at
-next_line (ArrayLength x e) jump next place without at = Contains-one next place at
-next_line (ArrayList x es) jump next place without at = Contains-one next place at
-next_line (Store x index e) jump next place without at = Contains-one next place at
-next_line (Print e) jump next place without at = Contains-one next place at
-next_line (Read x) jump next place without at = Contains-one next place at
-next_line (Branch e a b) jump next place without at = absurd (one_of (Branch e a b) (λ out. out) (turns_branch e a b) without)
-next_line (Goto a) jump next place without at = absurd (one_of (Goto a) (λ out. out) (λ program choice frame label s. refl) without)
-next_line (Call x callee es) jump next place without at = Contains-one next place at
-next_line (Return e) jump next place without at = absurd (omega (arith, at.1))
-next_line Stop jump next place without at = absurd (omega (arith, at.1))
-next_line (Assume es exit) jump next place without at = Contains-one next place at
-
--- an instruction leaves less before the run
-pub before-always : (program : ProgramView) (input : List Literal) (budget : ℕ) (old new : Moment) (line : Line) → IsAt program old line → ActsAs program input line.instr old new
-    → AlwaysTakesTurn line.instr → old.turns < budget → before budget (length (frame_lines program old.frame)) new < before budget (length (frame_lines program old.frame)) old
-before-always program input budget old new line at acts always left =
-    before-turn budget (length (frame_lines program old.frame)) old new at.going at.within left (turns-always program input old new line.instr acts always)
-
--- so does one that takes no turn and does not lead out, where the run goes on only to what may follow it
-pub before-without : (program : ProgramView) (input : List Literal) (budget : ℕ) (old new : Moment) (line : Line) (jump : Jump) → IsAt program old line → ActsAs program input line.instr old new
-    → (LeadsOut line.instr old.frame.env old.heap → ⊥) → StaysWithoutTurn line.instr → ComesTo line.instr (following line.instr jump (old.frame.place + 1)) old.frame.env new new.end
+-- so an instruction that is carried out in its frame leaves less before the run
+pub before-act : (program : ProgramView) (budget : ℕ) (old new : Moment) (line : Line) (jump : Jump) → IsAt program old line
+    → new.turns ≡ turns_after (jumps_away line.instr) old.turns → new.turns ≤ budget → ComesTo line.instr (following line.instr jump (old.frame.place + 1)) old.frame.env new new.end
     → before budget (length (frame_lines program old.frame)) new < before budget (length (frame_lines program old.frame)) old
-before-without program input budget old new line jump at acts inside without comes =
+before-act program budget old new line jump at after left comes =
     let Comes : End → Type 0 = ComesTo line.instr (following line.instr jump (old.frame.place + 1)) old.frame.env new in
-    before-line budget (length (frame_lines program old.frame)) old new at.going at.within (turns-without program input old new line.instr acts inside without)
-    (λ going. next_line line.instr jump (old.frame.place + 1) new.frame.place without (subst Comes going comes).place)
+    before-moved budget (length (frame_lines program old.frame)) old new (jumps_away line.instr) at.going at.within after left
+    (λ stays going. next_line line.instr jump (old.frame.place + 1) new.frame.place stays (subst Comes going comes).place)
 
 -- from a place of lines that end in a terminator on they end in one
 ends_from : (lines : List Line) (place : ℕ) → place < length lines → EndsInTerminator lines → EndsInTerminator (drop place lines)

@@ -1,6 +1,7 @@
 -- What an instruction comes to, once its value or its trap is known.
-use Rattle.std.proofs.Common.{◌≡◌, ◌⊎◌, inl, inr, ◌∙◌, ◌+◌, ℕ, List, [], ◌∷◌, Bool, true, false, cond, Ok, Err, Result, Option, None, Some, length, refl, ap}
-use Rattle.std.specs.Prelude.{nat_eq}
+use Rattle.std.proofs.Common.{◌≡◌, ◌⊎◌, inl, inr, ◌∙◌, ◌+◌, ◌++◌, ℕ, ℤ, pos, negsuc, List, [], ◌∷◌, Bool, true, false, cond, Ok, Err, Result, Option, None, Some, length, replicate, refl, ap}
+use Rattle.std.specs.Prelude.{IsTrue, nat_eq, nat_lt}
+use Rattle.std.proofs.lemmas.Bool.{false≢true}
 use Rattle.sour_syntax.specs.declared.expression.Expr.{Expr}
 use Rattle.sour_syntax.specs.declared.expression.Simple.{Simple}
 use Rattle.sour_syntax.specs.declared.exit.Exit.{Exit}
@@ -8,16 +9,19 @@ use Rattle.sour_syntax.specs.declared.instruction.Instr.{Instr}
 use Rattle.sour_syntax.specs.declared.instruction.Instr.TheVariants.{Var, Drop, Assign, ArrayLength, ArrayList, Store, Print, Read, Branch, Goto, Call, Return, Stop, Assume}
 use Rattle.sour_syntax.specs.declared.literal.FunId.{FunId}
 use Rattle.sour_syntax.specs.BodyView.{BodyView}
+use Rattle.sour_syntax.specs.declared.literal.Literal.TheVariants.{Nil}
 use Rattle.sour_syntax.specs.declared.literal.Value.{Value}
+use Rattle.sour_syntax.specs.declared.literal.Value.TheVariants.{Plain, Array}
 use Rattle.sour_syntax.specs.declared.literal.VarId.{VarId}
 use Rattle.sour_syntax.specs.declared.trap.Trap.{Trap}
-use Rattle.sour_syntax.specs.declared.trap.Trap.TheVariants.{ArgCount}
+use Rattle.sour_syntax.specs.declared.trap.Trap.TheVariants.{ArgCount, HeapFull, OutputFull}
 use Rattle.sour_syntax.specs.Exits.{continuations}
 use Rattle.sour_syntax.specs.Program.{ProgramView}
 use Rattle.sour_semantics.specs.State.{Environment, Heap, Frame, FrameCode, State, trapped}
-use Rattle.sour_semantics.specs.Step.{Entry, Choice, text_choice, body_at, ends, takes_turn, landed_frames, replaces_top, leaves, is_anchor, takes_exit_turn, assumes, stays, goes_to, sets, given, branches, waits_for, entered_frame, entered_code, enters, calls, resumes, returns, act}
-use Rattle.sour_semantics.specs.Evaluation.{eval, eval_each, operand, truth_in, function_in, holds_each}
-use Rattle.sour_machine.specs.Instruction.{IsCrossing, LeadsOut, AlwaysTakesTurn, StaysWithoutTurn}
+use Rattle.sour_semantics.specs.Step.{Entry, Choice, text_choice, body_at, ends, takes_turn, landed_frames, replaces_top, leaves, is_anchor, takes_exit_turn, assumes, stays, goes_to, sets, given, branches, cell_limit, count_heap, next_array, makes, makes_empty, output_limit, prints, waits_for, entered_frame, entered_code, enters, calls, resumes, returns, act}
+use Rattle.sour_semantics.specs.Evaluation.{eval, eval_each, operand, number_in, truth_in, function_in, holds_each}
+use Rattle.sour_semantics.specs.Text.{value_text}
+use Rattle.sour_machine.specs.Instruction.{IsCrossing, LeadsOut, jumps_away}
 use Rattle.sour_machine.specs.Run.{is_call}
 use Rattle.sour_machine.specs.Want.{TakesMemoryInside}
 
@@ -51,6 +55,12 @@ pub act-exit : (program : ProgramView) (frame : Frame) (es : List Expr) (exit : 
     → act program text_choice frame (Assume es exit) next s ≡ leaves program frame exit (takes_turn s)
 act-exit program frame es exit next s out plain = act-leaves program frame es exit next s out ∙ ap (λ anchor. leaves program frame exit (takes_exit_turn anchor s)) plain
 
+-- an instruction takes a turn, wherever it stands
+abbrev pub AlwaysTakesTurn : Instr → Type 0
+AlwaysTakesTurn instr =
+    (program : ProgramView) (choice : Choice) (frame : Frame) (next : List ℕ) (s : State)
+    → (act program choice frame instr next s).turns ≡ s.turns + 1
+
 -- whether a value comes or a trap, no turn is counted, if none is counted whatever the value
 turns-given : {A : Type 0} (outcome : Result A Trap) (onward : A → State) (s : State) → ((value : A) → (onward value).turns ≡ s.turns) → (given outcome onward s).turns ≡ s.turns
 turns-given (Ok value) onward s same = same value
@@ -75,6 +85,62 @@ turns_branch expr first second program choice frame next s = turns-branches (eva
 turns-cond : (test : Bool) (s t : State) (turns : ℕ) → s.turns ≡ turns → t.turns ≡ turns → (cond test s t).turns ≡ turns
 turns-cond true s t turns one other = one
 turns-cond false s t turns one other = other
+
+-- an instruction that goes to a label takes a turn
+pub turns_jumping : (instr : Instr) → IsTrue (jumps_away instr) → AlwaysTakesTurn instr
+turns_jumping (Var x e) jumps = absurd (false≢true jumps)
+turns_jumping (Drop x) jumps = absurd (false≢true jumps)
+turns_jumping (Assign x e) jumps = absurd (false≢true jumps)
+turns_jumping (ArrayLength x e) jumps = absurd (false≢true jumps)
+turns_jumping (ArrayList x es) jumps = absurd (false≢true jumps)
+turns_jumping (Store x index e) jumps = absurd (false≢true jumps)
+turns_jumping (Print e) jumps = absurd (false≢true jumps)
+turns_jumping (Read x) jumps = absurd (false≢true jumps)
+turns_jumping (Branch e a b) jumps = turns_branch e a b
+turns_jumping (Goto a) jumps = λ program choice frame next s. refl
+turns_jumping (Call x callee es) jumps = absurd (false≢true jumps)
+turns_jumping (Return e) jumps = absurd (false≢true jumps)
+turns_jumping Stop jumps = absurd (false≢true jumps)
+turns_jumping (Assume es exit) jumps = absurd (false≢true jumps)
+
+-- to make an array counts no turn, whether or not the heap has room for it
+turns-makes : (x : VarId) (cells : List Value) (next : List ℕ) (s : State) → (makes x cells next s).turns ≡ s.turns
+turns-makes x cells next s =
+    turns-cond (nat_lt cell_limit (count_heap s.heap + length cells)) (ends (trapped HeapFull) s)
+    (goes_to next (sets x (Array (next_array s.heap)) (record s { heap = s.heap ++ cells ∷ [] }))) s.turns refl refl
+
+-- nor does one of a length, whatever that is
+turns-makes_empty : (x : VarId) (count : Option ℤ) (next : List ℕ) (s : State) → (makes_empty x count next s).turns ≡ s.turns
+turns-makes_empty x None next s = refl
+turns-makes_empty x (Some (negsuc n)) next s = refl
+turns-makes_empty x (Some (pos n)) next s = turns-makes x (replicate n (Plain Nil)) next s
+
+-- nor to write a line, whether or not the output has room for it
+turns-prints : (line next : List ℕ) (s : State) → (prints line next s).turns ≡ s.turns
+turns-prints line next s =
+    turns-cond (nat_lt output_limit (length (s.output ++ line))) (ends (trapped OutputFull) s) (goes_to next (record s { output = s.output ++ line })) s.turns refl refl
+
+-- so an instruction that takes memory in its frame takes no turn
+pub turns_inside : (instr : Instr) → TakesMemoryInside instr → (program : ProgramView) (choice : Choice) (frame : Frame) (next : List ℕ) (s : State)
+    → (act program choice frame instr next s).turns ≡ s.turns
+turns_inside (Var x e) takes program choice frame next s = absurd takes
+turns_inside (Drop x) takes program choice frame next s = absurd takes
+turns_inside (Assign x e) takes program choice frame next s = absurd takes
+turns_inside (ArrayLength x e) takes program choice frame next s =
+    turns-given (eval frame.environment s.heap e) (λ value. makes_empty x (number_in value) next s) s (λ value. turns-makes_empty x (number_in value) next s)
+turns_inside (ArrayList x es) takes program choice frame next s =
+    turns-given (eval_each frame.environment s.heap es) (λ cells. makes x cells next s) s (λ cells. turns-makes x cells next s)
+turns_inside (Store x index e) takes program choice frame next s = absurd takes
+turns_inside (Print e) takes program choice frame next s =
+    turns-given (eval frame.environment s.heap e) (λ value. prints (value_text program s.heap value ++ 10 ∷ []) next s) s
+    (λ value. turns-prints (value_text program s.heap value ++ 10 ∷ []) next s)
+turns_inside (Read x) takes program choice frame next s = absurd takes
+turns_inside (Branch e a b) takes program choice frame next s = absurd takes
+turns_inside (Goto a) takes program choice frame next s = absurd takes
+turns_inside (Call x callee es) takes program choice frame next s = absurd takes
+turns_inside (Return e) takes program choice frame next s = absurd takes
+turns_inside Stop takes program choice frame next s = absurd takes
+turns_inside (Assume es exit) takes program choice frame next s = absurd takes
 
 -- no turn is counted where a body is entered, or where it is missing or takes another number of values
 turns-enters : (x : VarId) (code : FrameCode) (found : Option BodyView) (values : List Value) (next : List ℕ) (s : State) → (enters x code found values next s).turns ≡ s.turns
@@ -134,40 +200,6 @@ turns_crossing (Return e) crosses = turns_return e
 turns_crossing Stop crosses = absurd crosses
 turns_crossing (Assume es exit) crosses = absurd crosses
 
--- and has no predicates
-pub crossing-stays : (instr : Instr) (environment : Environment) (heap : Heap) → IsCrossing instr → LeadsOut instr environment heap → ⊥
-crossing-stays (Var x e) environment heap crosses out = out
-crossing-stays (Drop x) environment heap crosses out = out
-crossing-stays (Assign x e) environment heap crosses out = out
-crossing-stays (ArrayLength x e) environment heap crosses out = out
-crossing-stays (ArrayList x es) environment heap crosses out = out
-crossing-stays (Store x index e) environment heap crosses out = out
-crossing-stays (Print e) environment heap crosses out = out
-crossing-stays (Read x) environment heap crosses out = out
-crossing-stays (Branch e a b) environment heap crosses out = out
-crossing-stays (Goto a) environment heap crosses out = out
-crossing-stays (Call x callee es) environment heap crosses out = out
-crossing-stays (Return e) environment heap crosses out = out
-crossing-stays Stop environment heap crosses out = out
-crossing-stays (Assume es exit) environment heap crosses out = crosses
-
--- nor has one that takes memory in its frame
-pub inside-stays : (instr : Instr) (environment : Environment) (heap : Heap) → TakesMemoryInside instr → LeadsOut instr environment heap → ⊥
-inside-stays (Var x e) environment heap takes out = out
-inside-stays (Drop x) environment heap takes out = out
-inside-stays (Assign x e) environment heap takes out = out
-inside-stays (ArrayLength x e) environment heap takes out = out
-inside-stays (ArrayList x es) environment heap takes out = out
-inside-stays (Store x index e) environment heap takes out = out
-inside-stays (Print e) environment heap takes out = out
-inside-stays (Read x) environment heap takes out = out
-inside-stays (Branch e a b) environment heap takes out = out
-inside-stays (Goto a) environment heap takes out = out
-inside-stays (Call x callee es) environment heap takes out = out
-inside-stays (Return e) environment heap takes out = out
-inside-stays Stop environment heap takes out = out
-inside-stays (Assume es exit) environment heap takes out = takes
-
 -- no instruction that leads out is a call
 pub calls_none-out : (instr : Instr) (environment : Environment) (heap : Heap) → LeadsOut instr environment heap → is_call instr ≡ false
 calls_none-out (Var x e) environment heap out = absurd out
@@ -193,17 +225,6 @@ turns-leaves program frame exit s = turns-given (landed_frames program frame s.h
 turns-assumes : (program : ProgramView) (frame : Frame) (exit : Exit) (next : List ℕ) (s : State) → is_anchor frame.label ≡ false → (assumes program frame exit next false s).turns ≡ s.turns + 1
 turns-assumes program frame exit next s plain =
     turns-leaves program frame exit (takes_exit_turn (is_anchor frame.label) s) ∙ ap (λ anchor. (takes_exit_turn anchor s).turns) plain
-
--- where the predicates of an assume hold or trap, a run of the text counts no turn
-turns-stays : (program : ProgramView) (frame : Frame) (exit : Exit) (next : List ℕ) (s : State) (outcome : Result Bool Trap) → (outcome ≡ Ok false → ⊥)
-    → (given outcome (λ holds. assumes program frame exit next (stays text_choice frame.label holds) s) s).turns ≡ s.turns
-turns-stays program frame exit next s (Ok true) inside = refl
-turns-stays program frame exit next s (Ok false) inside = absurd (inside refl)
-turns-stays program frame exit next s (Err trap) inside = refl
-
--- a passed assume takes none
-pub turns_stays : (es : List Expr) (exit : Exit) → StaysWithoutTurn (Assume es exit)
-turns_stays es exit program frame next s inside = turns-stays program frame exit next s (holds_each frame.environment s.heap es) inside
 
 -- an instruction that leads out takes a turn where it is no anchor
 pub turns-out : (program : ProgramView) (frame : Frame) (instr : Instr) (next : List ℕ) (s : State) → is_anchor frame.label ≡ false → LeadsOut instr frame.environment s.heap

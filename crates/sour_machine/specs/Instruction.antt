@@ -1,17 +1,18 @@
 -- What the code of an instruction does to a moment of a run.
-use Rattle.std.specs.Prelude.{◌≡◌, ◌⊎◌, ℕ, ◌+◌, ◌<◌, ◌≤◌, List, [], ◌∷◌, ◌++◌, true, false, None, Some, Ok, length, Contains, slice_get, slice_set}
+use Rattle.std.specs.Prelude.{◌≡◌, ◌⊎◌, ℕ, ◌+◌, ◌<◌, ◌≤◌, List, [], ◌∷◌, ◌++◌, Bool, true, false, None, Some, Ok, length, get_or, Contains, slice_get, slice_set}
 use Rattle.std.specs.List.{AllByRecursion}
 use Rattle.sour_syntax.specs.declared.instruction.Instr.{Instr}
 use Rattle.sour_syntax.specs.declared.instruction.Instr.TheVariants.{Var, Drop, Assign, ArrayLength, ArrayList, Store, Print, Read, Branch, Goto, Call, Return, Stop, Assume}
 use Rattle.sour_syntax.specs.declared.instruction.Line.{Line}
+use Rattle.sour_syntax.specs.declared.jump.Jump.{Jump}
 use Rattle.sour_syntax.specs.declared.literal.Literal.{Literal}
 use Rattle.sour_syntax.specs.declared.literal.VarId.{VarId}
 use Rattle.sour_syntax.specs.Labels.{label_at}
 use Rattle.sour_syntax.specs.Program.{ProgramView}
 use Rattle.sour_syntax.specs.Scopes.{IsInScope, needed, mentioned, scope_after}
-use Rattle.sour_semantics.specs.State.{Environment, Heap, Frame, State}
+use Rattle.sour_semantics.specs.State.{Environment, Heap}
 use Rattle.sour_semantics.specs.Evaluation.{holds_each}
-use Rattle.sour_semantics.specs.Step.{Choice, text_choice, act}
+use Rattle.sour_semantics.specs.Step.{text_choice, act}
 use Rattle.sour_semantics.specs.Validity.{scope_of}
 use Rattle.sour_machine.specs.declared.activation.Waiting.{Waiting}
 use Rattle.sour_machine.specs.declared.moment.Moment.{Moment}
@@ -153,14 +154,28 @@ pub record StandsCrossing (program : ProgramView) (budget : ℕ) (moment : Momen
   pub found : slice_get (frame_lines program moment.frame) moment.frame.place ≡ Some line
   pub crosses : IsCrossing line.instr ⊎ LeadsOut line.instr moment.frame.env moment.heap
 
--- an instruction takes a turn, wherever it stands
-abbrev pub AlwaysTakesTurn : Instr → Type 0
-AlwaysTakesTurn instr =
-    (program : ProgramView) (choice : Choice) (frame : Frame) (next : List ℕ) (s : State)
-    → (act program choice frame instr next s).turns ≡ s.turns + 1
+-- the jump at a place
+abbrev pub jump_at : List Jump → ℕ → Jump
+jump_at jumps place = get_or jumps place (record { first = 0; second = 0 })
 
--- a run of the text takes no turn at an instruction, wherever that stands, unless its predicates lead to its exit
-abbrev pub StaysWithoutTurn : Instr → Type 0
-StaysWithoutTurn instr =
-    (program : ProgramView) (frame : Frame) (next : List ℕ) (s : State)
-    → (LeadsOut instr frame.environment s.heap → ⊥) → (act program text_choice frame instr next s).turns ≡ s.turns
+-- the instruction goes to a label that it names
+abbrev pub jumps_away : Instr → Bool
+jumps_away (Var x e) = false
+jumps_away (Drop x) = false
+jumps_away (Assign x e) = false
+jumps_away (ArrayLength x e) = false
+jumps_away (ArrayList x es) = false
+jumps_away (Store x index e) = false
+jumps_away (Print e) = false
+jumps_away (Read x) = false
+jumps_away (Branch e a b) = true
+jumps_away (Goto a) = true
+jumps_away (Call x callee es) = false
+jumps_away (Return e) = false
+jumps_away Stop = false
+jumps_away (Assume es exit) = false
+
+-- the turns behind an instruction that was carried out in its frame: one more where it goes to a label
+abbrev pub turns_after : Bool → ℕ → ℕ
+turns_after false turns = turns
+turns_after true turns = turns + 1

@@ -1,6 +1,6 @@
 //! The instructions that stay in their frame.
 
-ghost use Rattle.std.specs.Prelude.{◌≡◌, ◌+◌, ◌^◌, ◌<◌, ◌≤◌, ℕ, List, [], ◌∷◌, true, false, Ok, length, OnOk, OnErr, MatchBool};
+ghost use Rattle.std.specs.Prelude.{◌≡◌, ◌⊎◌, ◌+◌, ◌^◌, ◌<◌, ◌≤◌, ℕ, List, [], ◌∷◌, true, false, Ok, length, IsTrue, OnOk, OnErr};
 ghost use Rattle.sour_syntax.specs.declared.exit.Exit.{Exit};
 ghost use Rattle.sour_syntax.specs.declared.expression.Expr.{Expr};
 ghost use Rattle.sour_syntax.specs.declared.literal.Literal.{Literal};
@@ -16,7 +16,7 @@ ghost use Rattle.sour_machine.specs.Scope.{HasValues, HasValuesOfEach};
 ghost use Rattle.sour_machine.specs.Frame.{frame_lines};
 ghost use Rattle.sour_machine.specs.Moment.{state_at};
 ghost use Rattle.sour_machine.specs.Run.{is_call};
-ghost use Rattle.sour_machine.specs.Instruction.{IsReady, ActsAs, IsCrossing, LeadsOut, ComesTo, StaysInFrame, AlwaysTakesTurn, StaysWithoutTurn};
+ghost use Rattle.sour_machine.specs.Instruction.{IsReady, ActsAs, IsCrossing, LeadsOut, ComesTo, StaysInFrame, jump_at, jumps_away, turns_after};
 ghost use Rattle.sour_machine.specs.Want.{TakesMemoryInside};
 
 use crate::arrays::{make_empty, make_list, store};
@@ -29,63 +29,47 @@ use itoa::Buffer;
 use sour_syntax::{Expr, Instr, Jump, Literal, Program, Trap, Value, VarId};
 use std::alloc::{AllocError, Global};
 
-/// Whether an instruction takes a turn, whatever comes of it. Where it doesn't, only leaving takes one.
-pub(crate) fn takes_turn(instr: &Instr) -> bool
-    ensures { MatchBool result (AlwaysTakesTurn instr.now) (StaysWithoutTurn instr.now) }
-{
-    match instr {
-        Instr::Branch(..) | Instr::Goto(_) | Instr::Call(..) | Instr::Return(_) => true,
-        Instr::Var(..)
-        | Instr::Drop(_)
-        | Instr::Assign(..)
-        | Instr::ArrayLength(..)
-        | Instr::ArrayList(..)
-        | Instr::Store(..)
-        | Instr::Print(_)
-        | Instr::Read(_)
-        | Instr::Stop
-        | Instr::Assume(..) => false,
-    }
-}
-
 /// What came of an instruction.
 #[derive(Clone, Copy, Debug, PartialEq, Eq)]
 pub(crate) enum Acted {
     /// It was carried out, in its frame.
     Inside,
-    /// Nothing was done: it is a call or a return.
+    /// Nothing was done: it is a call or a return, or its predicates lead to its exit.
     Crossing,
-    /// Nothing was done: its predicates lead to its exit.
-    Leaving,
+    /// Nothing was done: it would take a turn beyond the budget.
+    MoreTurns,
 }
 
 /// Carries out one instruction of a run on this input, or none where memory is wanting, as it may be only for
-/// a print and for a new array. The jump has the places of the labels that the instruction names. Of an
-/// instruction that enters a frame or leaves one it says so, and does nothing. An assume whose predicates hold
-/// takes no turn.
+/// a print and for a new array. The jump at its place has the places of the labels that the instruction names.
+/// Of an instruction that enters a frame or leaves one it says so, and does nothing; nor does it where the
+/// instruction would take a turn beyond the budget. An assume whose predicates hold takes no turn.
 ///
 /// Most instructions set a variable or jump. The functions of the others aren't inlined, so the loop stays
-/// small.
+/// small; and only those that take a turn look at the turns, and only those that jump at the jumps.
 pub(crate) fn act(
     alloc: Global,
     program: &Program,
     moment: &mut Moment,
     input: &[Literal],
     instr: &Instr,
-    jump: Jump,
+    jumps: &[Jump],
+    budget: u64,
 ) -> Result<Acted, AllocError>
     requires going { moment.old.end ≡ End.Cut }
     requires place { moment.old.frame.place + 1 < 2 ^ 64 }
-    requires turns { moment.old.turns + 1 < 2 ^ 64 }
+    requires turns { moment.old.turns ≤ budget }
     requires within { moment.old.read ≤ length input.now }
     requires ready { IsReady instr.now moment.old.frame.env }
-    requires goes { GoesTo (frame_lines program.now moment.old.frame) instr.now jump }
+    requires there { moment.old.frame.place < length jumps.now }
+    requires goes { GoesTo (frame_lines program.now moment.old.frame) instr.now (jump_at jumps.now moment.old.frame.place) }
     ensures inside { result ≡ Ok Acted.Inside → ActsAs program.now input.now instr.now moment.old moment.new }
-    ensures comes { result ≡ Ok Acted.Inside → ComesTo instr.now (following instr.now jump (moment.old.frame.place + 1)) moment.old.frame.env moment.new moment.new.end }
+    ensures comes { result ≡ Ok Acted.Inside → ComesTo instr.now (following instr.now (jump_at jumps.now moment.old.frame.place) (moment.old.frame.place + 1)) moment.old.frame.env moment.new moment.new.end }
     ensures enters_none { result ≡ Ok Acted.Inside → is_call instr.now ≡ false }
-    ensures leaves_none { result ≡ Ok Acted.Inside → ¬ LeadsOut instr.now moment.old.frame.env moment.old.heap }
-    ensures crossing { result ≡ Ok Acted.Crossing → IsCrossing instr.now × (moment.new ≡ moment.old) }
-    ensures leaving { result ≡ Ok Acted.Leaving → LeadsOut instr.now moment.old.frame.env moment.old.heap × (moment.new ≡ moment.old) }
+    ensures turns { result ≡ Ok Acted.Inside → moment.new.turns ≡ turns_after (jumps_away instr.now) moment.old.turns }
+    ensures left { moment.new.turns ≤ budget }
+    ensures crossing { result ≡ Ok Acted.Crossing → (IsCrossing instr.now ⊎ LeadsOut instr.now moment.old.frame.env moment.old.heap) × (moment.old.turns < budget) × (moment.new ≡ moment.old) }
+    ensures more_turns { result ≡ Ok Acted.MoreTurns → (IsTrue (jumps_away instr.now) ⊎ IsCrossing instr.now ⊎ LeadsOut instr.now moment.old.frame.env moment.old.heap) × (moment.old.turns ≡ budget) × (moment.new ≡ moment.old) }
     ensures stays { StaysInFrame moment.old moment.new }
     ensures within { moment.new.read ≤ length input.now }
     ensures err { OnErr result (moment.new ≡ moment.old) }
@@ -99,13 +83,23 @@ pub(crate) fn act(
         Instr::Store(x, index, expr) => store(moment, *x, index, expr),
         Instr::Print(expr) => print(program, moment, expr)?,
         Instr::Read(x) => read(moment, input, *x),
-        Instr::Branch(expr, _, _) => branch(moment, expr, jump),
-        Instr::Goto(_) => goto(moment, jump),
-        Instr::Call(..) | Instr::Return(_) => return Ok(Acted::Crossing),
+        Instr::Branch(expr, _, _) if moment.turns < budget => {
+            branch(moment, expr, jumps[moment.frame.place]);
+        }
+        Instr::Goto(_) if moment.turns < budget => goto(moment, jumps[moment.frame.place]),
+        Instr::Call(..) | Instr::Return(_) if moment.turns < budget => {
+            return Ok(Acted::Crossing);
+        }
+        Instr::Branch(..) | Instr::Goto(_) | Instr::Call(..) | Instr::Return(_) => {
+            return Ok(Acted::MoreTurns);
+        }
         Instr::Stop => stop(moment),
         Instr::Assume(predicates, _) => {
             if !stays(moment, predicates.as_slice()) {
-                return Ok(Acted::Leaving);
+                if moment.turns < budget {
+                    return Ok(Acted::Crossing);
+                }
+                return Ok(Acted::MoreTurns);
             }
         }
     }
@@ -122,6 +116,7 @@ fn set(moment: &mut Moment, x: VarId, expr: &Expr)
     ensures declares { ComesTo (Instr.Var x expr.now) ((moment.old.frame.place + 1) ∷ []) moment.old.frame.env moment.new moment.new.end }
     ensures assigns { IsInScope (scope_of moment.old.frame.env) x → ComesTo (Instr.Assign x expr.now) ((moment.old.frame.place + 1) ∷ []) moment.old.frame.env moment.new moment.new.end }
     ensures stays { StaysInFrame moment.old moment.new }
+    ensures turns { moment.new.turns ≡ moment.old.turns }
     ensures reads { moment.new.read ≡ moment.old.read }
 {
     match eval(&moment.frame.env, &moment.heap, expr) {
@@ -141,6 +136,7 @@ fn clear(moment: &mut Moment, x: VarId)
     ensures acts { (program : ProgramView) (input : List Literal) → ActsAs program input (Instr.Drop x) moment.old moment.new }
     ensures comes { ComesTo (Instr.Drop x) ((moment.old.frame.place + 1) ∷ []) moment.old.frame.env moment.new moment.new.end }
     ensures stays { StaysInFrame moment.old moment.new }
+    ensures turns { moment.new.turns ≡ moment.old.turns }
     ensures reads { moment.new.read ≡ moment.old.read }
 {
     moment.frame.env.clear(x);
@@ -157,6 +153,7 @@ fn read(moment: &mut Moment, input: &[Literal], x: VarId)
     ensures acts { (program : ProgramView) → ActsAs program input.now (Instr.Read x) moment.old moment.new }
     ensures comes { ComesTo (Instr.Read x) ((moment.old.frame.place + 1) ∷ []) moment.old.frame.env moment.new moment.new.end }
     ensures stays { StaysInFrame moment.old moment.new }
+    ensures turns { moment.new.turns ≡ moment.old.turns }
     ensures within { moment.new.read ≤ length input.now }
 {
     match input.get(moment.read) {
@@ -178,6 +175,7 @@ fn print(program: &Program, moment: &mut Moment, expr: &Expr) -> Result<(), Allo
     ensures acts { OnOk result ((input : List Literal) → ActsAs program.now input (Instr.Print expr.now) moment.old moment.new) }
     ensures comes { OnOk result (ComesTo (Instr.Print expr.now) ((moment.old.frame.place + 1) ∷ []) moment.old.frame.env moment.new moment.new.end) }
     ensures stays { StaysInFrame moment.old moment.new }
+    ensures turns { moment.new.turns ≡ moment.old.turns }
     ensures reads { moment.new.read ≡ moment.old.read }
     ensures err { OnErr result (moment.new ≡ moment.old) }
 {
@@ -215,6 +213,7 @@ fn branch(moment: &mut Moment, expr: &Expr, jump: Jump)
     ensures acts { (program : ProgramView) (input : List Literal) (first second : List ℕ) → IsPlaceOf (frame_lines program moment.old.frame) first jump.first → IsPlaceOf (frame_lines program moment.old.frame) second jump.second → ActsAs program input (Instr.Branch expr.now first second) moment.old moment.new }
     ensures comes { (first second : List ℕ) → ComesTo (Instr.Branch expr.now first second) (jump.first ∷ jump.second ∷ []) moment.old.frame.env moment.new moment.new.end }
     ensures stays { StaysInFrame moment.old moment.new }
+    ensures turn { moment.new.turns ≡ moment.old.turns + 1 }
     ensures reads { moment.new.read ≡ moment.old.read }
 {
     moment.turns += 1;
@@ -233,6 +232,7 @@ fn go_by(moment: &mut Moment, value: Value, jump: Jump)
         → state_at program input moment.new ≡ branches (truth_in value) first second (state_at program input moment.old) }
     ensures comes { (expr : Expr) (first second : List ℕ) → ComesTo (Instr.Branch expr first second) (jump.first ∷ jump.second ∷ []) moment.old.frame.env moment.new moment.new.end }
     ensures stays { StaysInFrame moment.old moment.new }
+    ensures turns { moment.new.turns ≡ moment.old.turns }
     ensures reads { moment.new.read ≡ moment.old.read }
 {
     match value {
@@ -250,6 +250,7 @@ fn goto(moment: &mut Moment, jump: Jump)
     ensures acts { (program : ProgramView) (input : List Literal) (label : List ℕ) → IsPlaceOf (frame_lines program moment.old.frame) label jump.first → ActsAs program input (Instr.Goto label) moment.old moment.new }
     ensures comes { (label : List ℕ) → ComesTo (Instr.Goto label) (jump.first ∷ []) moment.old.frame.env moment.new moment.new.end }
     ensures stays { StaysInFrame moment.old moment.new }
+    ensures turn { moment.new.turns ≡ moment.old.turns + 1 }
     ensures reads { moment.new.read ≡ moment.old.read }
 {
     moment.turns += 1;
@@ -262,6 +263,7 @@ fn stop(moment: &mut Moment)
     ensures acts { (program : ProgramView) (input : List Literal) → ActsAs program input Instr.Stop moment.old moment.new }
     ensures comes { ComesTo Instr.Stop [] moment.old.frame.env moment.new moment.new.end }
     ensures stays { StaysInFrame moment.old moment.new }
+    ensures turns { moment.new.turns ≡ moment.old.turns }
     ensures reads { moment.new.read ≡ moment.old.read }
 {
     moment.end = End::Stopped;
@@ -279,6 +281,7 @@ fn stays(moment: &mut Moment, predicates: &[Expr]) -> bool
     ensures holds { result ≡ true → ¬ (holds_each moment.old.frame.env moment.old.heap predicates.now ≡ Ok false) }
     ensures leaves { result ≡ false → (holds_each moment.old.frame.env moment.old.heap predicates.now ≡ Ok false) × (moment.new ≡ moment.old) }
     ensures stays { StaysInFrame moment.old moment.new }
+    ensures turns { moment.new.turns ≡ moment.old.turns }
     ensures reads { moment.new.read ≡ moment.old.read }
 {
     match holds_each(&moment.frame.env, &moment.heap, predicates) {

@@ -8,7 +8,7 @@ ghost use Rattle.sour_machine.specs.Run.{GoesOn, IsAtTurns, Tells};
 ghost use Rattle.sour_machine.specs.Instruction.{StandsCrossing};
 ghost use Rattle.sour_machine.specs.Want.{WantsMemory};
 
-use crate::act::{Acted, act, takes_turn};
+use crate::act::{Acted, act};
 use crate::calls::cross;
 use crate::moment::Moment;
 use crate::report::End;
@@ -59,15 +59,10 @@ fn advance_in_frame(
     let jumps = body.jumps();
     while let End::Cut = moment.end {
         let instr = &lines[moment.frame.place].instr;
-        let jump = jumps[moment.frame.place];
-        if takes_turn(instr) && moment.turns == budget {
-            return Ok(Pause::MoreTurns);
-        }
-        match act(alloc, program, moment, input, instr, jump)? {
+        match act(alloc, program, moment, input, instr, jumps, budget)? {
             Acted::Inside => {}
             Acted::Crossing => return Ok(Pause::Crossing),
-            Acted::Leaving if moment.turns == budget => return Ok(Pause::MoreTurns),
-            Acted::Leaving => return Ok(Pause::Crossing),
+            Acted::MoreTurns => return Ok(Pause::MoreTurns),
         }
     }
     Ok(Pause::Ended)

@@ -33,6 +33,7 @@ fn make(moment: &mut Moment, x: VarId, cells: List<Value>) -> Result<(), AllocEr
     ensures makes { OnOk result ((program : ProgramView) (input : Listed Literal) → state_at program input moment.new ≡ makes x cells (label_at (frame_lines program moment.old.frame) (moment.old.frame.place + 1)) (state_at program input moment.old)) }
     ensures comes { OnOk result (ComesDeclaring x ((moment.old.frame.place + 1) ∷ []) moment.old.frame.env moment.new moment.new.end) }
     ensures stays { StaysInFrame moment.old moment.new }
+    ensures turns { moment.new.turns ≡ moment.old.turns }
     ensures reads { moment.new.read ≡ moment.old.read }
     ensures err { OnErr result (moment.new ≡ moment.old) }
 {
@@ -55,6 +56,7 @@ fn make_nils(alloc: Global, moment: &mut Moment, x: VarId, count: i64) -> Result
     ensures makes { OnOk result ((program : ProgramView) (input : Listed Literal) → state_at program input moment.new ≡ makes_empty x (Some count) (label_at (frame_lines program moment.old.frame) (moment.old.frame.place + 1)) (state_at program input moment.old)) }
     ensures comes { OnOk result (ComesDeclaring x ((moment.old.frame.place + 1) ∷ []) moment.old.frame.env moment.new moment.new.end) }
     ensures stays { StaysInFrame moment.old moment.new }
+    ensures turns { moment.new.turns ≡ moment.old.turns }
     ensures reads { moment.new.read ≡ moment.old.read }
     ensures err { OnErr result (moment.new ≡ moment.old) }
 {
@@ -86,6 +88,7 @@ pub(crate) fn make_empty(
     ensures acts { OnOk result ((program : ProgramView) (input : Listed Literal) → ActsAs program input (ArrayLength x expr.now) moment.old moment.new) }
     ensures comes { OnOk result (ComesTo (ArrayLength x expr.now) ((moment.old.frame.place + 1) ∷ []) moment.old.frame.env moment.new moment.new.end) }
     ensures stays { StaysInFrame moment.old moment.new }
+    ensures turns { moment.new.turns ≡ moment.old.turns }
     ensures reads { moment.new.read ≡ moment.old.read }
     ensures err { OnErr result (moment.new ≡ moment.old) }
 {
@@ -112,6 +115,7 @@ pub(crate) fn make_list(
     ensures acts { OnOk result ((program : ProgramView) (input : Listed Literal) → ActsAs program input (ArrayList x exprs.now) moment.old moment.new) }
     ensures comes { OnOk result (ComesTo (ArrayList x exprs.now) ((moment.old.frame.place + 1) ∷ []) moment.old.frame.env moment.new moment.new.end) }
     ensures stays { StaysInFrame moment.old moment.new }
+    ensures turns { moment.new.turns ≡ moment.old.turns }
     ensures reads { moment.new.read ≡ moment.old.read }
     ensures err { OnErr result (moment.new ≡ moment.old) }
 {
@@ -152,6 +156,7 @@ fn write(moment: &mut Moment, x: VarId, index: &Simple, value: Value)
         ≡ writes (operand moment.old.frame.env (Simple.Var x)) (number_in (operand moment.old.frame.env index.now)) value (label_at (frame_lines program moment.old.frame) (moment.old.frame.place + 1)) (state_at program input moment.old) }
     ensures comes { (expr : Expr) → ComesTo (Store x index.now expr) ((moment.old.frame.place + 1) ∷ []) moment.old.frame.env moment.new moment.new.end }
     ensures stays { StaysInFrame moment.old moment.new }
+    ensures turns { moment.new.turns ≡ moment.old.turns }
     ensures reads { moment.new.read ≡ moment.old.read }
 {
     let array = *moment.frame.env.value(x);
@@ -176,6 +181,7 @@ pub(crate) fn store(moment: &mut Moment, x: VarId, index: &Simple, expr: &Expr)
     ensures acts { (program : ProgramView) (input : Listed Literal) → ActsAs program input (Store x index.now expr.now) moment.old moment.new }
     ensures comes { ComesTo (Store x index.now expr.now) ((moment.old.frame.place + 1) ∷ []) moment.old.frame.env moment.new moment.new.end }
     ensures stays { StaysInFrame moment.old moment.new }
+    ensures turns { moment.new.turns ≡ moment.old.turns }
     ensures reads { moment.new.read ≡ moment.old.read }
 {
     let value = eval(&moment.frame.env, &moment.heap, expr);

@@ -2,6 +2,8 @@
 
 ghost use Rattle.std.specs.Prelude.{◌≡◌, ◌⊎◌, ◌+◌, ◌^◌, ◌<◌, ◌≤◌, List, [], Some, false, length, map, IsTrue, OnOk, OnErr};
 ghost use Rattle.std.specs.List.{AllByRecursion};
+ghost use Rattle.std.specs.Option.{option_copied};
+ghost use Rattle.sour_syntax.specs.declared.literal.FunId.{FunId};
 ghost use Rattle.sour_syntax.specs.declared.literal.Literal.{Literal};
 ghost use Rattle.sour_syntax.specs.declared.literal.Value.{Value};
 ghost use Rattle.sour_syntax.specs.Exits.{continuations_of};
@@ -10,6 +12,7 @@ ghost use Rattle.sour_syntax.specs.Program.{ProgramView};
 ghost use Rattle.sour_syntax.specs.Scopes.{IsInScope, simple_variables};
 ghost use Rattle.sour_syntax.specs.Targets.{IsNamed, Lands};
 ghost use Rattle.sour_semantics.specs.Evaluation.{function_in};
+ghost use Rattle.sour_semantics.specs.State.{text};
 ghost use Rattle.sour_semantics.specs.Step.{text_version, is_anchor, body_at, takes_turn, enters, calls, returns};
 ghost use Rattle.sour_semantics.specs.Validity.{scope_of};
 ghost use Rattle.sour_machine.specs.Scope.{HasValues, HasValuesOfEach};
@@ -39,6 +42,22 @@ fn function_in(value: Value) -> Option<FunId>
     match value {
         Value::Plain(Literal::Function(function)) => Some(function),
         _ => None,
+    }
+}
+
+/// The body that a call of a value enters: that of the text version of the function to which it refers.
+fn called_body<'a>(program: &'a Program, value: Value) -> Option<&'a Body>
+    ensures { (function : FunId) → function_in value ≡ Some function → option_copied result ≡ body_at program.now (text function 0) }
+{
+    let function = function_in(value)?;
+    FrameCode::Text(function, 0).body(program)
+}
+
+/// How many places the row of a call needs, whether or not the call enters the body.
+fn room_for(body: Option<&Body>, arguments: &[Expr]) -> usize {
+    match body {
+        Some(body) => body.variables().len().max(arguments.len()),
+        None => arguments.len(),
     }
 }
 
@@ -77,19 +96,21 @@ fn push_frame(
     Ok(())
 }
 
-/// Enters the text version of a function with a row that has the values of the arguments, if the value
-/// refers to a function that takes so many.
+/// Enters the text version of a function, whose body this is, with a row that has the values of the
+/// arguments, if the value refers to a function that takes so many.
 fn enter(
     program: &Program,
     moment: &mut Moment,
     x: VarId,
     value: Value,
+    body: Option<&Body>,
     row: Env,
 ) -> Result<(), AllocError>
     requires going { moment.old.end ≡ End.Cut }
     requires place { moment.old.frame.place + 1 < 2 ^ 64 }
     requires turns { moment.old.turns + 1 < 2 ^ 64 }
     requires calls { moment.old.calls + 1 < 2 ^ 64 }
+    requires body { (function : FunId) → function_in value ≡ Some function → option_copied body ≡ body_at program.now (text function 0) }
     ensures calls { OnOk result ((input : List Literal) (values : List Value) → row ≡ map Some values
         → state_at program.now input moment.new ≡ calls program.now text_version x (function_in value) values (label_at (frame_lines program.now moment.old.frame) (moment.old.frame.place + 1)) (takes_turn (state_at program.now input moment.old))) }
     ensures enters { OnOk result ((values : List Value) → row ≡ map Some values → EntersOr program.now x moment.old moment.new moment.new.end) }
@@ -100,8 +121,7 @@ fn enter(
         trap_in_call(moment, Trap::NotFunction);
         return Ok(());
     };
-    let code = FrameCode::Text(function, 0);
-    let Some(body) = code.body(program) else {
+    let Some(body) = body else {
         trap_in_call(moment, Trap::NotFunction);
         return Ok(());
     };
@@ -109,7 +129,7 @@ fn enter(
         trap_in_call(moment, Trap::ArgCount);
         return Ok(());
     }
-    push_frame(moment, x, code, body, row)
+    push_frame(moment, x, FrameCode::Text(function, 0), body, row)
 }
 
 /// Ends the run with a trap of a call, which takes its turn.
@@ -123,7 +143,8 @@ fn trap_in_call(moment: &mut Moment, trap: Trap)
 }
 
 /// Calls what an operand refers to with the values of the arguments: it gets a row that a frame left
-/// behind, if there is one. Where memory is wanting nothing is done.
+/// behind, if there is one. The row gets room for all variables at once, before the values are put in. Where
+/// memory is wanting nothing is done.
 #[inline(never)]
 fn call(
     alloc: Global,
@@ -145,11 +166,12 @@ fn call(
     ensures reads { moment.new.read ≡ moment.old.read }
     ensures err { OnErr result (moment.new ≡ moment.old) }
 {
-    match row_of(&moment.frame.env, &moment.heap, arguments, rows.take(alloc))? {
-        Ok(row) => {
-            let value = operand(&moment.frame.env, callee);
-            enter(program, moment, x, value, row)
-        }
+    let value = operand(&moment.frame.env, callee);
+    let body = called_body(program, value);
+    let mut row = rows.take(alloc);
+    row.reserve(room_for(body, arguments))?;
+    match row_of(&moment.frame.env, &moment.heap, arguments, row)? {
+        Ok(row) => enter(program, moment, x, value, body, row),
         Err(trap) => {
             trap_in_call(moment, trap);
             Ok(())
@@ -199,7 +221,7 @@ fn return_value(moment: &mut Moment, rows: &mut SpareRows, expr: &Expr)
 }
 
 /// Carries out a `call` or a `return`, or leaves by the exit of an assume whose predicates lead there. Where
-/// memory is wanting, which a `return` never takes, nothing is done.
+/// memory is wanting nothing is done; a `return` never answers that it is.
 pub(crate) fn cross(
     alloc: Global,
     program: &Program,

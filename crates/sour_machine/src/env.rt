@@ -56,6 +56,13 @@ impl Env {
         self.values.resize(count, None)
     }
 
+    /// Makes room for so many variables more, so that to put them in takes no memory.
+    pub(crate) fn reserve(&mut self, more: usize) -> Result<(), AllocError>
+        ensures { self.new ≡ self.old }
+    {
+        self.values.reserve(more)
+    }
+
     /// Takes all variables out, and keeps the room for as many.
     pub(crate) fn clear_all(&mut self)
         ensures { self.new ≡ [] }

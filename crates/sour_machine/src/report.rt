@@ -6,7 +6,7 @@ use std::alloc::Global;
 /// How a run ended.
 #[derive(Clone, Copy, Debug, PartialEq, Eq)]
 pub enum End {
-    /// `main` returned this value.
+    /// The lowest frame returned this value: that of `main`, or one for which it left.
     Returned(Value),
     /// The program stopped itself.
     Stopped,
@@ -32,7 +32,7 @@ pub struct Report {
     pub turns: u64,
     /// How many calls entered a frame; entering `main` is the first.
     pub calls: u64,
-    /// How many cells the array has that `main` returned; 0 where it returned none.
+    /// How many cells the array has that the run returned; 0 where it returned none.
     pub cells: u64,
 }
 

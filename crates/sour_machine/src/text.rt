@@ -70,12 +70,13 @@ pub(crate) fn count_cells(value: Value, heap: &Heap) -> u64
 /// What a value prints as.
 pub fn value_text(
     alloc: Global,
-    value: Value,
+    value: &Value,
     program: &Program,
     heap: &Heap,
 ) -> Result<Vec<u8>, AllocError>
-    ensures { IfOk result (λ text. text.items ≡ value_text program.now heap.now value) }
+    ensures { IfOk result (λ text. text.items ≡ value_text program.now heap.now value.now) }
 {
+    let value = *value;
     let mut digits = Buffer::new();
     let mut text = Vec::new(alloc);
     text.extend_from_slice(value_head(value))?;

@@ -95,6 +95,33 @@ fn refuses_long_instructions(rt: HostRuntime) -> Result<(), Fail> {
     Ok(())
 }
 
+/// The text of so many functions, the last of which is `main` with so many parameters.
+fn text_of_functions(alloc: Global, count: usize, parameters: usize) -> Result<Vec<u8>, Fail> {
+    let mut text = Vec::new(alloc);
+    for i in 1..count {
+        text.extend_from_slice(format!(in alloc; "fun f{i}()\nver v\nstop\nend\n")?.as_bytes())?;
+    }
+    text.extend_from_slice(b"fun main(p0")?;
+    for i in 1..parameters {
+        text.extend_from_slice(format!(in alloc; ", p{i}")?.as_bytes())?;
+    }
+    text.extend_from_slice(b")\nver v\nstop\nend\n")?;
+    Ok(text)
+}
+
+#[test]
+fn refuses_many_functions_and_parameters(rt: HostRuntime) -> Result<(), Fail> {
+    for (count, parameters, fault) in [
+        (256, 255, None),
+        (257, 1, Some(TextFault::Unplaced)),
+        (1, 256, Some(TextFault::Unplaced)),
+    ] {
+        let text = text_of_functions(rt.alloc(), count, parameters)?;
+        assert_eq!(rt; read_job(rt.alloc(), &text).err(), fault);
+    }
+    Ok(())
+}
+
 #[test]
 fn refuses_other_instructions(rt: HostRuntime) -> Result<(), Fail> {
     let instructions: [&[u8]; 20] = [

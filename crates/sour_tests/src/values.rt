@@ -235,7 +235,7 @@ fn gives_the_text_of_values(rt: HostRuntime) -> Result<(), Fail> {
         (Value::Array(ArrayId(0)), b"array(2)".as_slice()),
     ];
     for (value, expected) in rows {
-        let text = value_text(rt.alloc(), value, &program, &heap)?;
+        let text = value_text(rt.alloc(), &value, &program, &heap)?;
         assert_eq!(rt; text.as_slice(), expected);
     }
     Ok(())

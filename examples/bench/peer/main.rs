@@ -7,7 +7,7 @@
 //! that it uses what any Rust programmer would: a frame refers to its body, and an operand to its value, which
 //! isn't copied; a value is one enum, and so is a row's cell, which holds nil where it has no value.
 //!
-//! It reads texts that are accepted, and panics on most others: it checks neither scopes nor limits.
+//! It reads texts that are accepted, and panics on most others: it checks neither scopes nor the limits of a text.
 //!
 //!     rustc --edition 2024 -O -C panic=abort -C codegen-units=1 -C target-cpu=x86-64 -o /tmp/peer main.rs
 //!     /tmp/peer run --budget 10000000 <text.sour

@@ -77,6 +77,7 @@ fn arrays_trap_in_their_order(rt: HostRuntime) -> Result<(), Fail> {
         ("array x[1]\nprint x[9223372036854775807]\n", "trap 4\n"),
         ("array x[1]\nx[-9223372036854775808] <- 1\n", "trap 4\n"),
         ("array x = []\nx[0] <- 1\n", "trap 4\n"),
+        ("array x[2]\nx[3] <- 1\n", "trap 4\n"),
         ("array x[2]\nprint x[nil]\n", "trap 1\n"),
         ("array x[2]\nprint x[x]\n", "trap 1\n"),
         ("var x = 5\nprint x[9]\n", "trap 1\n"),

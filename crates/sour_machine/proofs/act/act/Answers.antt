@@ -8,7 +8,7 @@ use Rattle.sour_syntax.specs.Scopes.{IsInScope, needed, variables_of_each}
 use Rattle.sour_syntax.specs.Spread.{following}
 use Rattle.sour_syntax.proofs.EachExpression.{all_first}
 use Rattle.sour_semantics.specs.Validity.{scope_of}
-use Rattle.sour_machine.specs.Instruction.{ComesTo}
+use Rattle.sour_machine.specs.Instruction.{ComesTo, jump_at}
 use Rattle.sour_machine.specs.Scope.{HasValuesOfEach}
 use Rattle.sour_machine.proofs.act.act.Goals as goal
 
@@ -16,14 +16,14 @@ pub returns-in-Branch-clause-comes : goal.returns-in-Branch-clause-comes
 returns-in-Branch-clause-comes c = λ ok.
     let old = c.args.moment.now in
     let new = c.branch-moment.new.moment in
-    let Comes : Instr → Type 0 = λ instr. ComesTo instr (following instr c.args.jump (old.frame.place + 1)) old.frame.env new new.end in
+    let Comes : Instr → Type 0 = λ instr. ComesTo instr (following instr (jump_at c.args.jumps.now old.frame.place) (old.frame.place + 1)) old.frame.env new new.end in
     subst Comes (sym c.in-Branch.is) (c.branch-moment.ensures.comes c.in-Branch.field-1 c.in-Branch.field-2)
 
 pub returns-in-Goto-clause-comes : goal.returns-in-Goto-clause-comes
 returns-in-Goto-clause-comes c = λ ok.
     let old = c.args.moment.now in
     let new = c.goto.new.moment in
-    let Comes : Instr → Type 0 = λ instr. ComesTo instr (following instr c.args.jump (old.frame.place + 1)) old.frame.env new new.end in
+    let Comes : Instr → Type 0 = λ instr. ComesTo instr (following instr (jump_at c.args.jumps.now old.frame.place) (old.frame.place + 1)) old.frame.env new new.end in
     subst Comes (sym c.in-Goto.is) (c.goto.ensures.comes c.in-Goto.field-0)
 
 pub returns-else-not-stays-clause-comes : goal.returns-else-not-stays-clause-comes
@@ -33,7 +33,7 @@ returns-else-not-stays-clause-comes c = λ ok.
     let exit = c.in-Assume.field-1 in
     let stays : c.stays.result ≡ true = search rules in
     let Assumes : List Expr → Type 0 = λ es. ComesTo (Assume es exit) ((old.frame.place + 1) ∷ []) old.frame.env new new.end in
-    let Comes : Instr → Type 0 = λ instr. ComesTo instr (following instr c.args.jump (old.frame.place + 1)) old.frame.env new new.end in
+    let Comes : Instr → Type 0 = λ instr. ComesTo instr (following instr (jump_at c.args.jumps.now old.frame.place) (old.frame.place + 1)) old.frame.env new new.end in
     subst Comes (sym c.in-Assume.is) (subst Assumes c.as_slice-in-Assume.ensures (c.stays.ensures.comes stays exit))
 
 pub stays-requires-clause-values : goal.stays-requires-clause-values
