@@ -1,5 +1,5 @@
 -- How much an instruction may hold.
-use Rattle.std.specs.Prelude.{◌≤◌, ℕ, length}
+use Rattle.std.specs.Prelude.{◌≤◌, length}
 use Rattle.sour_syntax.specs.declared.instruction.Instr.{Instr}
 use Rattle.sour_syntax.specs.declared.instruction.Instr.TheVariants.{Var, Drop, Assign, ArrayLength, ArrayList, Store, Print, Read, Branch, Goto, Call, Return, Stop, Assume}
 

@@ -1,4 +1,4 @@
-use Rattle.std.proofs.Common.{◌≡◌, ◌+◌, ◌≤◌, Ok, get_or, length, inl, inr, sym, ap, ◌∙◌, arith}
+use Rattle.std.proofs.Common.{◌≡◌, ◌+◌, ◌≤◌, Ok, get_or, length, inl, sym, ap, ◌∙◌, arith}
 use Rattle.sour_syntax.specs.BodyView.{BodyView}
 use Rattle.sour_syntax.specs.Spread.{following}
 use Rattle.sour_machine.specs.declared.moment.Moment.{Moment}
