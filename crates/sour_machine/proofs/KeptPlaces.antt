@@ -1,12 +1,11 @@
 -- Where a frame that leaves goes, as the program keeps it.
-use Rattle.std.proofs.Common.{◌≡◌, ℕ, ◌+◌, ◌<◌, List, [], Option, None, Some, length, map, refl, sym, ap, ◌∙◌, subst, add-one}
+use Rattle.std.proofs.Common.{◌≡◌, ℕ, ◌<◌, List, [], Option, None, Some, length, map, refl, sym, ap, ◌∙◌, subst, add-one}
 use Rattle.std.specs.Prelude.{IfSome}
 use Rattle.std.specs.List.{AllByRecursion, slice_get}
 use Rattle.std.specs.Option.{option_map}
 use Rattle.std.proofs.lemmas.Option.{slice_get-map}
 use Rattle.sour_syntax.specs.declared.exit.Bind.{Bind}
 use Rattle.sour_syntax.specs.declared.exit.Exit.{Exit}
-use Rattle.sour_syntax.specs.declared.exit.Extra.{Extra}
 use Rattle.sour_syntax.specs.declared.exit.Target.{Target}
 use Rattle.sour_syntax.specs.declared.expression.Expr.{Expr}
 use Rattle.sour_syntax.specs.declared.instruction.Instr.{Instr}
@@ -15,7 +14,7 @@ use Rattle.sour_syntax.specs.declared.instruction.Line.{Line}
 use Rattle.sour_syntax.specs.declared.literal.FunId.{FunId}
 use Rattle.sour_syntax.specs.declared.literal.VarId.{VarId}
 use Rattle.sour_syntax.specs.BodyView.{BodyView}
-use Rattle.sour_syntax.specs.Exits.{Continuation, top_continuation, extra_continuation, continuations_of, bound_names}
+use Rattle.sour_syntax.specs.Exits.{top_continuation, extra_continuation, continuations_of, bound_names}
 use Rattle.sour_syntax.specs.ExitPlaces.{LeadsTo, IsExitPlace}
 use Rattle.sour_syntax.specs.Labels.{IsPlaceOf}
 use Rattle.sour_syntax.specs.Program.{ProgramView}

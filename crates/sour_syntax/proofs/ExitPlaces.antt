@@ -1,12 +1,10 @@
 -- The places that are kept for exits.
-use Rattle.std.proofs.Common.{◌≡◌, ℕ, List, [], Option, None, Some, slice_get, refl, sym, subst}
-use Rattle.std.specs.Prelude.{IfSome}
-use Rattle.sour_syntax.specs.declared.instruction.Line.{Line}
+use Rattle.std.proofs.Common.{◌≡◌, ℕ, List, Option, None, Some, slice_get, refl, sym, subst}
 use Rattle.sour_syntax.specs.declared.program.Function.{Function}
 use Rattle.sour_syntax.specs.declared.program.Version.{Version}
 use Rattle.sour_syntax.specs.BodyView.{BodyView}
 use Rattle.sour_syntax.specs.Exits.{continuations_of}
-use Rattle.sour_syntax.specs.ExitPlaces.{LeadsTo, KeepsPlace, KeepsOfLine, KeepsOfVersion, KeepsOfFunction, KeepsOfEach, IsExitPlace}
+use Rattle.sour_syntax.specs.ExitPlaces.{KeepsPlace, KeepsOfLine, KeepsOfVersion, KeepsOfFunction, KeepsOfEach, IsExitPlace}
 use Rattle.sour_syntax.specs.Targets.{text_body, version_body}
 use Rattle.sour_syntax.proofs.Everywhere.{zipped_at}
 

@@ -4,6 +4,7 @@ use Rattle.sour_syntax.specs.declared.jump.Jump.{Jump}
 use Rattle.sour_syntax.specs.BodyView.{BodyView}
 use Rattle.sour_syntax.specs.Scopes.{HasScopes, MentionsItsVariables}
 use Rattle.sour_syntax.specs.Spread.{following}
+use Rattle.sour_syntax.proofs.JumpPlaces.{length-GoTo}
 use Rattle.sour_semantics.specs.Run.{TakesTurn}
 use Rattle.sour_machine.specs.declared.moment.Moment.{Moment}
 use Rattle.sour_machine.specs.Frame.{frame_lines}
@@ -12,7 +13,6 @@ use Rattle.sour_machine.specs.Moment.{state_at}
 use Rattle.sour_machine.proofs.Advances.{Reads, Reads-lines, IsReady-line, GoesOn-act, turn-none, WantsMemory-line, IsAtTurns-more, IsAtTurns-leaving, turns-always, turns-without, turns-grow, takes-crossing, before-always, before-without, Stands-act, has_memory-act, StandsCrossing-line}
 use Rattle.sour_machine.proofs.Instructions.{inside-stays}
 use Rattle.sour_machine.proofs.RunLaws.{OnErr-any}
-use Rattle.sour_machine.proofs.Jumps.{length-GoTo}
 use Rattle.sour_machine.proofs.Measure.{before}
 use Rattle.sour_machine.proofs.advance.advance_in_frame.Goals.{else-takes_turn-via-then-takes_turn+else-moment-budget, else-takes_turn-via-else-takes_turn}
 use Rattle.sour_machine.proofs.advance.advance_in_frame.Goals as goal

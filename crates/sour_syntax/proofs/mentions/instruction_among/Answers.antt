@@ -1,4 +1,4 @@
-use Rattle.std.proofs.Common.{◌<◌, ◌↔◌, IsTrue, List, Bool, sym, subst}
+use Rattle.std.proofs.Common.{◌<◌, ◌↔◌, IsTrue, List, sym, subst}
 use Rattle.std.specs.List.{AllByRecursion}
 use Rattle.sour_syntax.specs.declared.literal.VarId.{VarId}
 use Rattle.sour_syntax.specs.declared.expression.Expr.{Expr}

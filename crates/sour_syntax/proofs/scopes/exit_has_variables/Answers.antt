@@ -1,9 +1,8 @@
-use Rattle.std.proofs.Common.{◌<◌, ◌↔◌, IsTrue, List, Bool, subst}
+use Rattle.std.proofs.Common.{◌↔◌, IsTrue, List, subst}
 use Rattle.std.specs.List.{AllByRecursion}
-use Rattle.sour_syntax.specs.declared.expression.Expr.{Expr}
 use Rattle.sour_syntax.specs.declared.exit.Bind.{Bind}
 use Rattle.sour_syntax.specs.declared.exit.Extra.{Extra}
-use Rattle.sour_syntax.specs.Exits.{bound_values, extras_values, exit_values}
+use Rattle.sour_syntax.specs.Exits.{bound_values, extras_values}
 use Rattle.sour_syntax.specs.Scopes.{variables_of_each, IsInScope}
 use Rattle.sour_syntax.proofs.EachExpression.{values_then, values_else}
 use Rattle.sour_syntax.proofs.scopes.exit_has_variables.Goals as goal

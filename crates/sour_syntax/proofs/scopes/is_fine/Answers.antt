@@ -3,7 +3,7 @@ use Rattle.std.specs.List.{AllByRecursion}
 use Rattle.sour_syntax.specs.declared.expression.Expr.{Expr}
 use Rattle.sour_syntax.specs.declared.instruction.Instr.{Instr}
 use Rattle.sour_syntax.specs.Exits.{exit_values}
-use Rattle.sour_syntax.specs.Scopes.{variables_of_each, IsInScope, IsFine, needed}
+use Rattle.sour_syntax.specs.Scopes.{variables_of_each, IsInScope, IsFine}
 use Rattle.sour_syntax.proofs.EachExpression.{joined_then, joined_else}
 use Rattle.sour_syntax.proofs.scopes.is_fine.Goals as goal
 
