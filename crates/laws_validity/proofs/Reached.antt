@@ -1,5 +1,5 @@
 -- A label to which a path leads is that of a line.
-use Rattle.std.proofs.Common.{◌≡◌, ◌≢◌, ◌⊎◌, inl, inr, ⊎_elim, ℕ, zero, suc, List, [], ◌∷◌, Bool, true, false, cond, refl, sym, ap, ◌∙◌, subst, arith, Contains}
+use Rattle.std.proofs.Common.{◌≡◌, ◌≢◌, ◌⊎◌, inl, inr, ⊎_elim, ℕ, zero, suc, List, [], ◌∷◌, Bool, true, false, cond, refl, sym, ap, ◌∙◌, subst, Contains}
 use Rattle.std.specs.List.{AllByRecursion}
 use Rattle.std.specs.Str.{bytes_eq}
 use Rattle.std.proofs.lemmas.List.Elements.{All-from_recursion, All-contains, All-map}
@@ -13,6 +13,7 @@ use Rattle.sour_syntax.specs.Jumps.{named_labels}
 use Rattle.sour_syntax.specs.Labels.{from_label, first_label, labels_of}
 use Rattle.sour_syntax.specs.Scopes.{Scope, following_labels, HasScope}
 use Rattle.sour_syntax.specs.Terminator.{IsTerminator, EndsInTerminator}
+use Rattle.sour_syntax.proofs.Everywhere.{Contains-one}
 use Rattle.sour_syntax.proofs.NoExits.{taken, All-from_label}
 
 -- no line has this label
@@ -65,28 +66,23 @@ named_at label lines known not =
     All-contains differs (labels_of lines) label
     (All-map differs (λ (line : Line). line.label) lines (All-from_recursion (λ (line : Line). line.label ≢ label) lines not)) known refl
 
--- the one element of a list
-one : (next label : List ℕ) → Contains (next ∷ []) label → label ≡ next
-one next label (zero, within, same) = sym same
-one next label (suc place, within, same) = absurd (omega (arith, within))
-
 -- what follows an instruction is the line behind it, where it is no terminator, or has a label that it names
 followed : (instr : Instr) (next label : List ℕ) → Contains (following_labels instr next) label
     → ((IsTerminator instr → ⊥) × (label ≡ next)) ⊎ Contains (named_labels instr) label
-followed (Var x e) next label contains = inl ((λ none. none), one next label contains)
-followed (Drop x) next label contains = inl ((λ none. none), one next label contains)
-followed (Assign x e) next label contains = inl ((λ none. none), one next label contains)
-followed (ArrayLength x e) next label contains = inl ((λ none. none), one next label contains)
-followed (ArrayList x es) next label contains = inl ((λ none. none), one next label contains)
-followed (Store x index e) next label contains = inl ((λ none. none), one next label contains)
-followed (Print e) next label contains = inl ((λ none. none), one next label contains)
-followed (Read x) next label contains = inl ((λ none. none), one next label contains)
+followed (Var x e) next label contains = inl ((λ none. none), Contains-one next label contains)
+followed (Drop x) next label contains = inl ((λ none. none), Contains-one next label contains)
+followed (Assign x e) next label contains = inl ((λ none. none), Contains-one next label contains)
+followed (ArrayLength x e) next label contains = inl ((λ none. none), Contains-one next label contains)
+followed (ArrayList x es) next label contains = inl ((λ none. none), Contains-one next label contains)
+followed (Store x index e) next label contains = inl ((λ none. none), Contains-one next label contains)
+followed (Print e) next label contains = inl ((λ none. none), Contains-one next label contains)
+followed (Read x) next label contains = inl ((λ none. none), Contains-one next label contains)
 followed (Branch e a b) next label contains = inr contains
 followed (Goto a) next label contains = inr contains
-followed (Call x callee es) next label contains = inl ((λ none. none), one next label contains)
+followed (Call x callee es) next label contains = inl ((λ none. none), Contains-one next label contains)
 followed (Return e) next label contains = inr contains
 followed Stop next label contains = inr contains
-followed (Assume es exit) next label contains = inl ((λ none. none), one next label contains)
+followed (Assume es exit) next label contains = inl ((λ none. none), Contains-one next label contains)
 
 -- there are lines from a label on to which a path leads
 pub reached : (body : BodyView) (count : ℕ) (label : List ℕ) (scope : Scope) → IsBody body → HasScope body count label scope

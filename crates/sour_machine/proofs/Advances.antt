@@ -23,7 +23,7 @@ use Rattle.sour_semantics.specs.Run.{start, TakesTurn}
 use Rattle.sour_semantics.specs.Validity.{scope_of}
 use Rattle.sour_semantics.proofs.Anchors.{plain-no_anchor}
 use Rattle.sour_semantics.proofs.Places.{lines_of-body, step-at_place}
-use Rattle.sour_syntax.proofs.Everywhere.{AllByRecursion-found}
+use Rattle.sour_syntax.proofs.Everywhere.{AllByRecursion-found, Contains-one}
 use Rattle.sour_syntax.proofs.LabelPlaces.{from_label-first_label-drop, drop-slice_get, EndsInTerminator-from, lt-EndsInTerminator}
 use Rattle.sour_syntax.proofs.Following.{following_within}
 use Rattle.sour_syntax.proofs.JumpPlaces.{goes_at}
@@ -38,7 +38,7 @@ use Rattle.sour_machine.specs.Moment.{state_at, run_at, Stands}
 use Rattle.sour_machine.specs.Run.{GoesOn, IsAtTurns, is_call, first_calls, top_calls}
 use Rattle.sour_machine.specs.Want.{TakesMemory, WantsMemory}
 use Rattle.sour_machine.proofs.Checked.{IsTextBody-runs}
-use Rattle.sour_machine.proofs.Jumps.{Contains-following_labels, All-Contains, Contains-one}
+use Rattle.sour_machine.proofs.Jumps.{Contains-following_labels, All-Contains}
 use Rattle.sour_machine.proofs.Instructions.{turns_branch, turns_crossing, crossing-stays, turns-out}
 use Rattle.sour_machine.proofs.Measure.{before, before-turn, before-line}
 use Rattle.sour_machine.proofs.RunLaws.{entered-none, GoesOn-one, GoesOn-on}

@@ -42,8 +42,3 @@ pub All-Contains : {X : Type 0} (P : X → Type 0) (xs : List X) (x : X) → All
 All-Contains P [] x all (k, within, found) = absurd (omega arith)
 All-Contains P (first ∷ xs) x all (zero, within, found) = subst P found all.0
 All-Contains P (first ∷ xs) x all (suc k, within, found) = All-Contains P xs x all.1 (k, omega arith, found)
-
--- the only place of one
-pub Contains-one : (place next : ℕ) → Contains (place ∷ []) next → next ≡ place
-Contains-one place next (zero, within, found) = sym found
-Contains-one place next (suc k, within, found) = absurd (omega arith)

@@ -1,5 +1,5 @@
 -- What holds of each element of a list.
-use Rattle.std.proofs.Common.{◌≡◌, ℕ, zero, suc, ◌+◌, ◌<◌, List, [], ◌∷◌, ◌++◌, Option, Some, Contains, length, set, replicate, take, get_or, slice_get, refl, sym, ap, ◌∙◌, subst}
+use Rattle.std.proofs.Common.{◌≡◌, ℕ, zero, suc, ◌+◌, ◌<◌, List, [], ◌∷◌, ◌++◌, Option, Some, Contains, length, set, replicate, take, get_or, slice_get, refl, sym, ap, ◌∙◌, subst, arith}
 use Rattle.std.specs.Prelude.{IfSome}
 use Rattle.std.specs.List.{AllByRecursion, AllZip}
 use Rattle.std.proofs.lemmas.List.{take_more}
@@ -63,6 +63,11 @@ module _ {X : Type 0} (P : X → Type 0) where
 -- what stands at a place of a list is in it
 pub Contains-slice_get : {X : Type 0} (xs : List X) (place : ℕ) (x : X) → slice_get xs place ≡ Some x → Contains xs x
 Contains-slice_get xs place x at = (place, slice_get_within xs place x at, get_or_from_slice_get xs place x x at)
+
+-- what is in a list of one element is that one
+pub Contains-one : {X : Type 0} (x y : X) → Contains (x ∷ []) y → y ≡ x
+Contains-one x y (zero, within, same) = sym same
+Contains-one x y (suc place, within, same) = absurd (omega (arith, within))
 
 -- what is found among the first elements is found among all
 pub slice_get-front : {A : Type 0} (xs ys : List A) (place : ℕ) (x : A) → slice_get xs place ≡ Some x
