@@ -23,11 +23,8 @@ use Rattle.sour_semantics.specs.Evaluation.{number_in, truth_in, function_in, op
 use Rattle.sour_semantics.specs.Text.{value_text}
 use Rattle.sour_semantics.specs.Step.{Choice, Entry, step, given, reads, makes, makes_empty, cell_limit, count_heap, writes, writes_array, writes_cell, prints, output_limit, takes_turn, takes_exit_turn, is_anchor, branches, entered_code, enters, calls, resumes, returns, landed, landed_frames, replaces_top, leaves, assumes, stays, body_at, act, act_first, lines_of}
 use Rattle.sour_semantics.specs.Agreement.{free_choice, free_run}
+use Rattle.laws_validity.proofs.States.{going}
 use Rattle.laws_agreement.specs.Laws.{above, HasTop, IsReturned, StaysAbove, ComesBack, StepsAbove, SplitsAt, RunsAbove}
-
--- the state goes on with these frames
-abbrev pub going : List Frame → State → State
-going frames s = record s { frames = frames; ending = None }
 
 -- a step above further frames stays above them or comes back
 abbrev IsAbove : List Frame → State → State → Type 0

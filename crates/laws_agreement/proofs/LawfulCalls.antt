@@ -23,7 +23,7 @@ use Rattle.sour_semantics.specs.Validity.{IsValue, IsKept, MayStart, IsValid}
 use Rattle.sour_semantics.specs.Agreement.{free_choice, Agree, IsLawful}
 use Rattle.laws_validity.proofs.Steps.{IsValid-step}
 use Rattle.laws_agreement.specs.Laws.{later, above, CallAgrees, IsLawfulEntry, RunsAgree}
-use Rattle.laws_agreement.proofs.FramesBelow.{going}
+use Rattle.laws_validity.proofs.States.{going}
 use Rattle.laws_agreement.proofs.RunsAlone.{Agree-later}
 use Rattle.laws_agreement.proofs.AgreementAbove.{agrees_above}
 

@@ -1,10 +1,11 @@
 -- Free steps, one after the other.
-use Rattle.std.proofs.Common.{◌≡◌, ◌≤◌, ◌+◌, ℕ, zero, suc, Bool, false, List, [], ◌∷◌, ◌++◌, Option, None, Some, IsSome, replicate, refl, sym, ap, subst, ◌∙◌, arith}
+use Rattle.std.proofs.Common.{◌≡◌, ◌≤◌, ◌+◌, ℕ, zero, suc, Bool, false, List, [], ◌∷◌, ◌++◌, Option, IsSome, replicate, refl, sym, ap, subst, ◌∙◌, arith}
 use Rattle.sour_syntax.specs.Program.{ProgramView}
 use Rattle.sour_semantics.specs.State.{State, Ending}
-use Rattle.sour_semantics.specs.Step.{step, text_choice, unless_ended}
+use Rattle.sour_semantics.specs.Step.{step, text_choice}
 use Rattle.sour_semantics.specs.Run.{text_run}
 use Rattle.sour_semantics.specs.Agreement.{free_choice, free_run, Match, IsShownFrom, Agree}
+use Rattle.sour_semantics.proofs.Runs.{unless_ended-stays}
 use Rattle.laws_agreement.specs.Laws.{later}
 use Rattle.laws_agreement.proofs.LaterRuns.{later-free_run, later-text_run}
 
@@ -13,11 +14,6 @@ pub free_run-append : (program : ProgramView) (before after : List Bool) (s : St
     → free_run program (before ++ after) s ≡ free_run program after (free_run program before s)
 free_run-append program [] after s = refl
 free_run-append program (leaves ∷ before) after s = free_run-append program before after (step program (free_choice leaves) s)
-
--- what has ended stays, whatever the next state
-unless_ended-stays : (ending : Option Ending) (s t : State) → IsSome ending → unless_ended ending t s ≡ s
-unless_ended-stays None s t ended = cc
-unless_ended-stays (Some ending) s t ended = refl
 
 -- a run that has ended stays as it is
 pub free_run-ended : (program : ProgramView) (choices : List Bool) (s : State) → IsSome s.ending → free_run program choices s ≡ s

@@ -31,9 +31,11 @@ use Rattle.sour_semantics.specs.Step.{text_version, text_choice, step, given, re
 use Rattle.sour_semantics.specs.Run.{start_of, text_run}
 use Rattle.sour_semantics.specs.Agreement.{free_choice, free_run, Match, Agree}
 use Rattle.laws_agreement.specs.Laws.{IsTextCode, TextAgrees, TextAloneAgrees}
-use Rattle.laws_agreement.proofs.FramesBelow.{going}
-use Rattle.sour_syntax.proofs.NoExits.{All-from_label}
-use Rattle.laws_agreement.proofs.TextBodies.{IsTextTarget, IsTextLine, IsVersionBody-program, text-lines, plain-no_anchor, label-found}
+use Rattle.sour_syntax.proofs.NoExits.{All-from_label, label-from_label}
+use Rattle.sour_semantics.proofs.Anchors.{plain-no_anchor}
+use Rattle.laws_validity.proofs.States.{going}
+use Rattle.laws_validity.proofs.Values.{IfOk-in_front}
+use Rattle.laws_agreement.proofs.TextBodies.{IsTextTarget, IsTextLine, IsVersionBody-program, text-lines}
 
 -- the code of a version, or that of the one body of the bundle
 abbrev IsHere : BodyView → FrameCode → Type 0
@@ -227,13 +229,6 @@ landed_frames-text program f frame heap (continuation ∷ some) are =
     ap (λ first. in_front first (landed_frames program (textual_frame f frame) heap some)) (landed-text program f frame.code continuation values are.0)
     ∙ ap (in_front (landed program frame.code continuation values)) (landed_frames-text program f frame heap some are.1)
 
--- a frame of a version before others
-IfOk-in_front : (first : Result Frame Trap) (others : Result (List Frame) Trap) → IfOk first (λ frame. IsTextCode frame.code) → IfOk others AreText
-    → IfOk (in_front first others) AreText
-IfOk-in_front (Err trap) others one more = tt
-IfOk-in_front (Ok first) (Err trap) one more = tt
-IfOk-in_front (Ok first) (Ok others) one more = (one, more)
-
 -- the frame that a continuation makes runs a version
 IfOk-landed : (program : ProgramView) (code : FrameCode) (continuation : Continuation) (values : Result (List Value) Trap)
     → IsTextTarget continuation.target.code → IfOk (landed program code continuation values) (λ frame. IsTextCode frame.code)
@@ -245,8 +240,9 @@ IfOk-landed_frames : (program : ProgramView) (frame : Frame) (heap : Heap) (some
     → AllByRecursion (λ continuation. IsTextTarget continuation.target.code) some → IfOk (landed_frames program frame heap some) AreText
 IfOk-landed_frames program frame heap [] are = tt
 IfOk-landed_frames program frame heap (continuation ∷ some) are =
-    IfOk-in_front (landed program frame.code continuation (eval_each frame.environment heap (bound_values continuation.binds)))
-    (landed_frames program frame heap some)
+    IfOk-in_front (λ (one : Frame). IsTextCode one.code) AreText AreText
+    (landed program frame.code continuation (eval_each frame.environment heap (bound_values continuation.binds)))
+    (landed_frames program frame heap some) (λ first others is are. (is, are))
     (IfOk-landed program frame.code continuation (eval_each frame.environment heap (bound_values continuation.binds)) are.0)
     (IfOk-landed_frames program frame heap some are.1)
 
@@ -347,7 +343,7 @@ Follows-act_first program leaves f body frame frames all [] s here are stands = 
 Follows-act_first program leaves f body frame frames all (line ∷ lines) s here are stands =
     let is : IsTextLine line = All-from_label IsTextLine frame.label all line lines are stands in
     let plain : is_anchor frame.label ≡ false =
-    ap is_anchor (sym (label-found frame.label all line lines stands)) ∙ plain-no_anchor line.label is.plain.begins in
+    ap is_anchor (sym (label-from_label frame.label all line lines stands)) ∙ plain-no_anchor line.label is.plain.begins in
     Follows-act program leaves f body frame frames line.instr (first_label lines) s here plain is.exits
 
 -- the lines of a body that is found, if it is

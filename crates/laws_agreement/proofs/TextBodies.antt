@@ -1,11 +1,7 @@
 -- Bodies of the versions of a checked program.
-use Rattle.std.proofs.Common.{◌≡◌, ◌≢◌, ◌+◌, ◌||◌, ℕ, zero, suc, Bool, true, false, cond, IsTrue, List, [], ◌∷◌, ◌++◌, Some, nat_eq, slice_get, refl, sym, ap, subst, ◌∙◌, arith}
-use Rattle.std.specs.Str.{bytes_eq}
-use Rattle.std.specs.Char.{is_ascii_alphabetic}
+use Rattle.std.proofs.Common.{◌≡◌, ◌≢◌, ◌+◌, ℕ, zero, suc, cond, List, [], ◌∷◌, ◌++◌, Some, slice_get, refl, ap, subst, arith}
 use Rattle.std.specs.List.{AllByRecursion}
-use Rattle.std.proofs.lemmas.Bool.{eqb-true}
 use Rattle.std.proofs.lemmas.Option.{same_Some, none-some}
-use Rattle.std.proofs.lemmas.Slice.Eq.{bytes_eq-Decides}
 use Rattle.sour_syntax.specs.declared.exit.Code.{Code}
 use Rattle.sour_syntax.specs.declared.exit.Code.TheVariants.{Text, Made}
 use Rattle.sour_syntax.specs.declared.instruction.Line.{Line}
@@ -14,11 +10,10 @@ use Rattle.sour_syntax.specs.declared.program.Function.{Function}
 use Rattle.sour_syntax.specs.declared.program.Version.{Version}
 use Rattle.sour_syntax.specs.BodyView.{BodyView}
 use Rattle.sour_syntax.specs.Exits.{Continuation, continuations_of}
-use Rattle.sour_syntax.specs.Labels.{from_label}
 use Rattle.sour_syntax.specs.Program.{ProgramView, BeginsPlain, IsPlainName, IsVersion, AreFunctions, IsProgram}
 use Rattle.sour_syntax.specs.Targets.{version_body, text_body, named_body, IsNamed}
-use Rattle.sour_semantics.specs.Step.{is_anchor}
 use Rattle.sour_semantics.specs.Shape.{without_at, BeginsWith}
+use Rattle.sour_semantics.proofs.Anchors.{no_at}
 
 -- a body is that of a version of the function that has this number
 pub record IsVersionBody (functions : List Function) (number : ℕ) (body : BodyView) : Type 0 where
@@ -58,24 +53,7 @@ IsVersionBody-program program f version body is found =
     let same : 0 + f.0 ≡ f.0 = omega arith in
     subst Numbered same (IsVersionBody-function program.functions 0 program.functions f.0 version body is.each found)
 
--- a letter or `_` is no `@`, by what the test says
-no_at-by : (byte : ℕ) (test : Bool) → nat_eq byte 64 ≡ test → IsTrue (is_ascii_alphabetic byte || nat_eq byte 95) → nat_eq byte 64 ≡ false
-no_at-by byte false is plain = is
-no_at-by byte true is plain =
-    let Plain : ℕ → Type 0 = λ n. IsTrue (is_ascii_alphabetic n || nat_eq n 95) in
-    let at : Plain 64 = subst Plain (eqb-true byte 64 is) plain in
-    absurd (cc)
-
--- a letter or `_` is no `@`
-no_at : (byte : ℕ) → IsTrue (is_ascii_alphabetic byte || nat_eq byte 95) → nat_eq byte 64 ≡ false
-no_at byte plain = no_at-by byte (nat_eq byte 64) refl plain
-
--- a label that begins plainly is that of no anchor
-pub plain-no_anchor : (label : List ℕ) → BeginsPlain label → is_anchor label ≡ false
-plain-no_anchor [] plain = absurd plain
-plain-no_anchor (byte ∷ bytes) plain = no_at byte plain
-
--- and has no `@` to take away
+-- a label that begins plainly has no `@` to take away
 pub plain-without_at : (label : List ℕ) → BeginsPlain label → without_at label ≡ label
 plain-without_at [] plain = absurd plain
 plain-without_at (byte ∷ bytes) plain = ap (λ test. cond test bytes (byte ∷ bytes)) (no_at byte plain)
@@ -126,17 +104,3 @@ pub text-lines : (functions : List Function) (number : ℕ) (body : BodyView) �
 text-lines functions number body of =
     let Lines : BodyView → Type 0 = λ b. AllByRecursion IsTextLine b.lines in
     subst Lines of.same (are-lines functions of.version.body.lines of.is.labels of.is.exits.named)
-
--- the label of the first of the lines that were taken
-taken-label : (label : List ℕ) (test : Bool) (first : Line) (lines found : List Line) (line : Line) (rest : List Line) → bytes_eq first.label label ≡ test
-    → (found ≡ line ∷ rest → line.label ≡ label) → cond test (first ∷ lines) found ≡ line ∷ rest → line.label ≡ label
-taken-label label true first lines found line rest is inner stands =
-    let same : first ≡ line = cc in
-    ap (λ (l : Line). l.label) (sym same) ∙ (bytes_eq-Decides first.label label).0 is
-taken-label label false first lines found line rest is inner stands = inner stands
-
--- the line that stands at a label has it
-pub label-found : (label : List ℕ) (lines : List Line) (line : Line) (rest : List Line) → from_label label lines ≡ line ∷ rest → line.label ≡ label
-label-found label [] line rest stands = cc
-label-found label (first ∷ lines) line rest stands =
-    taken-label label (bytes_eq first.label label) first lines (from_label label lines) line rest refl (label-found label lines line rest) stands

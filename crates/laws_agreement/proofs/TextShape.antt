@@ -10,7 +10,8 @@ use Rattle.sour_syntax.specs.Targets.{text_body}
 use Rattle.sour_semantics.specs.Step.{is_anchor}
 use Rattle.sour_semantics.specs.Shape.{without_at, BeginsWith, IsAnchorInstr, IsInlined, HasMadeLabel, IsFreeFor, IsReached, HasShape}
 use Rattle.laws_agreement.specs.Laws.{TextAloneIsLawful}
-use Rattle.laws_agreement.proofs.TextBodies.{IsVersionBody, IsVersionBody-program, plain-no_anchor, plain-without_at, whole-no_front}
+use Rattle.sour_semantics.proofs.Anchors.{plain-no_anchor}
+use Rattle.laws_agreement.proofs.TextBodies.{IsVersionBody, IsVersionBody-program, plain-without_at, whole-no_front}
 use Rattle.laws_agreement.proofs.TextAlone.{text_alone_agrees}
 
 -- lines with plain labels have labels that a made body may have

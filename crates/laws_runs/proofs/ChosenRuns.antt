@@ -4,14 +4,14 @@ use Rattle.sour_syntax.specs.Program.{ProgramView}
 use Rattle.sour_semantics.specs.State.{State, Ending}
 use Rattle.sour_semantics.specs.Step.{Choice, step}
 use Rattle.sour_semantics.specs.Agreement.{run_by}
-use Rattle.laws_runs.proofs.RunRests.{stays}
+use Rattle.sour_semantics.proofs.Runs.{unless_ended-stays}
 use Rattle.laws_runs.proofs.StepTurns.{Near-step}
 
 -- a run that has ended stays as it is, whatever the choices
 run_by-ended : (program : ProgramView) (choices : List Choice) (s : State) → IsSome s.ending → run_by program choices s ≡ s
 run_by-ended program [] s ended = refl
 run_by-ended program (choice ∷ choices) s ended =
-    let same : step program choice s ≡ s = stays s.ending s _ ended in
+    let same : step program choice s ≡ s = unless_ended-stays s.ending s _ ended in
     ap (run_by program choices) same ∙ run_by-ended program choices s ended
 
 -- turns never fall along a run

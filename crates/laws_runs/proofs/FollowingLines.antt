@@ -1,11 +1,12 @@
 -- The lines behind one at which a frame stands.
-use Rattle.std.proofs.Common.{◌≡◌, ℕ, suc, List, [], ◌∷◌, Bool, true, false, cond, Some, drop, ap, subst, add-one}
+use Rattle.std.proofs.Common.{◌≡◌, ℕ, suc, List, [], ◌∷◌, Some, drop, ap, subst, add-one}
 use Rattle.std.specs.List.{slice_get}
 use Rattle.std.specs.Str.{bytes_eq}
 use Rattle.sour_syntax.specs.declared.instruction.Line.{Line}
 use Rattle.sour_syntax.specs.Labels.{LabelsDiffer, from_label, first_label}
 use Rattle.sour_syntax.specs.Terminator.{IsTerminator, EndsInTerminator}
 use Rattle.sour_syntax.proofs.LabelPlaces.{from_label-first_label-drop, lt-EndsInTerminator, EndsInTerminator-next}
+use Rattle.sour_syntax.proofs.NoExits.{taken}
 
 -- a line stands at a place, with these lines behind it
 record StandsAt (lines : List Line) (line : Line) (rest : List Line) : Type 0 where
@@ -14,28 +15,26 @@ record StandsAt (lines : List Line) (line : Line) (rest : List Line) : Type 0 wh
   pub behind : drop (suc place) lines ≡ rest
   pub end : EndsInTerminator (drop place lines)
 
+-- the first line stands at the first place
+at_first : (first : Line) (lines : List Line) (line : Line) (rest : List Line) → EndsInTerminator (first ∷ lines) → first ≡ line → lines ≡ rest
+    → StandsAt (first ∷ lines) line rest
+at_first first lines line rest end same others = record { place = 0; found = ap Some same; behind = others; end = end }
+
 -- what stands among the others stands one place further among all
 further : (first : Line) (lines : List Line) (line : Line) (rest : List Line) → StandsAt lines line rest → StandsAt (first ∷ lines) line rest
 further first lines line rest at = record { place = suc at.place; found = at.found; behind = at.behind; end = at.end }
-
--- the first line is the one, or it stands among the others
-taken : (test : Bool) (first : Line) (lines found : List Line) (line : Line) (rest : List Line) → EndsInTerminator (first ∷ lines)
-    → (found ≡ line ∷ rest → StandsAt lines line rest) → cond test (first ∷ lines) found ≡ line ∷ rest → StandsAt (first ∷ lines) line rest
-taken true first lines found line rest end inner stands =
-    let same : first ≡ line = cc in
-    let others : lines ≡ rest = cc in
-    record { place = 0; found = ap Some same; behind = others; end = end }
-taken false first lines found line rest end inner stands = further first lines line rest (inner stands)
 
 -- where the lines from a label on begin
 place_of : (label : List ℕ) (lines : List Line) (line : Line) (rest : List Line) → EndsInTerminator lines
     → from_label label lines ≡ line ∷ rest → StandsAt lines line rest
 place_of label [] line rest end stands = absurd end
 place_of label (first ∷ []) line rest end stands =
-    taken (bytes_eq first.label label) first [] [] line rest end (λ (none : [] ≡ line ∷ rest). cc) stands
+    taken (StandsAt (first ∷ []) line rest) (bytes_eq first.label label) first [] [] line rest (λ is. at_first first [] line rest end)
+    (λ (none : [] ≡ line ∷ rest). cc) stands
 place_of label (first ∷ next ∷ lines) line rest end stands =
-    taken (bytes_eq first.label label) first (next ∷ lines) (from_label label (next ∷ lines)) line rest end
-    (place_of label (next ∷ lines) line rest end) stands
+    taken (StandsAt (first ∷ next ∷ lines) line rest) (bytes_eq first.label label) first (next ∷ lines) (from_label label (next ∷ lines))
+    line rest (λ is. at_first first (next ∷ lines) line rest end)
+    (λ behind. further first (next ∷ lines) line rest (place_of label (next ∷ lines) line rest end behind)) stands
 
 -- there are such lines, and they are those from the label of their first on
 pub record AreBehind (lines rest : List Line) : Type 0 where

@@ -1,8 +1,7 @@
 -- Leaving at an anchor leads to an earlier body of the bundle or to a version of the text.
-use Rattle.std.proofs.Common.{◌≡◌, ◌<◌, ◌+◌, ◌*◌, ◌≤◌, ℕ, List, [], ◌∷◌, ◌++◌, Bool, true, false, cond, Option, Some, Result, Ok, Err, length, map, refl, sym, ap, ◌∙◌, subst, arith}
+use Rattle.std.proofs.Common.{◌≡◌, ◌<◌, ◌+◌, ◌*◌, ◌≤◌, ℕ, List, [], ◌∷◌, ◌++◌, Bool, true, false, cond, Some, Result, Ok, Err, length, map, refl, sym, ap, ◌∙◌, subst, arith}
 use Rattle.std.specs.Prelude.{IfOk}
 use Rattle.std.specs.Str.{bytes_eq}
-use Rattle.std.proofs.lemmas.Slice.Eq.{bytes_eq-Decides}
 use Rattle.sour_syntax.specs.declared.exit.Exit.{Exit}
 use Rattle.sour_syntax.specs.declared.instruction.Line.{Line}
 use Rattle.sour_syntax.specs.declared.literal.Value.{Value}
@@ -11,10 +10,11 @@ use Rattle.sour_syntax.specs.BodyView.{BodyView}
 use Rattle.sour_syntax.specs.Exits.{Continuation, top_continuation, extra_continuation, continuations, bound_values}
 use Rattle.sour_syntax.specs.Labels.{from_label}
 use Rattle.sour_syntax.specs.Program.{ProgramView, IsProgram}
+use Rattle.sour_syntax.proofs.NoExits.{All-from_label, label-from_label}
 use Rattle.sour_semantics.specs.State.{Heap, Frame, FrameCode}
 use Rattle.sour_semantics.specs.Evaluation.{eval_each}
-use Rattle.sour_semantics.specs.Step.{body_or_empty, body_at, lines_of, exit_code, landed, landed_frames, is_anchor}
-use Rattle.sour_syntax.proofs.NoExits.{All-from_label}
+use Rattle.sour_semantics.specs.Step.{body_at, lines_of, exit_code, landed, landed_frames, is_anchor}
+use Rattle.sour_semantics.proofs.Places.{lines_of-body}
 use Rattle.laws_validity.proofs.Bodies.{depth, Leads, IsBodyOf, IsBodyOf-code}
 use Rattle.laws_validity.proofs.Values.{IfOk-any, IfOk-in_front}
 
@@ -34,33 +34,11 @@ length-from_label : (label : List ℕ) (lines : List Line) → length (from_labe
 length-from_label label [] = omega arith
 length-from_label label (line ∷ lines) = length-taken (bytes_eq line.label label) line lines (from_label label lines) (length-from_label label lines)
 
--- a code has as many lines as its body
-length-lines_of : (program : ProgramView) (code : FrameCode) (body : BodyView) → body_at program code ≡ Some body
-    → length (lines_of program code) ≡ length body.lines
-length-lines_of program code body runs = ap (λ (found : Option BodyView). length (body_or_empty found).lines) runs
-
 -- a frame has no more lines left than a body may have
 pub left-most : (program : ProgramView) (code : FrameCode) (label : List ℕ) (body : BodyView) → body_at program code ≡ Some body
     → length body.lines ≤ 4096 → length (from_label label (lines_of program code)) ≤ 4096
 left-most program code label body runs few =
-    omega (arith, length-from_label label (lines_of program code), length-lines_of program code body runs)
-
--- the first of the lines from a label on has that label, by whether it is the first of all
-label_taken : (test : Bool) (label : List ℕ) (first : Line) (lines found : List Line) (line : Line) (rest : List Line)
-    → bytes_eq first.label label ≡ test → (found ≡ line ∷ rest → line.label ≡ label) → cond test (first ∷ lines) found ≡ line ∷ rest
-    → line.label ≡ label
-label_taken true label first lines found line rest is inner stands =
-    let Labelled : Line → Type 0 = λ line. line.label ≡ label in
-    let same : first ≡ line = cc in
-    subst Labelled same ((bytes_eq-Decides first.label label).0 is)
-label_taken false label first lines found line rest is inner stands = inner stands
-
--- the first of the lines from a label on has that label
-label_found : (label : List ℕ) (lines : List Line) (line : Line) (rest : List Line) → from_label label lines ≡ line ∷ rest → line.label ≡ label
-label_found label [] line rest stands = cc
-label_found label (first ∷ lines) line rest stands =
-    label_taken (bytes_eq first.label label) label first lines (from_label label lines) line rest refl
-    (label_found label lines line rest) stands
+    omega (arith, length-from_label label (lines_of program code), ap length (lines_of-body program code body runs))
 
 -- a frame that stands at an anchor runs made code
 pub anchor_made : (program : ProgramView) (code : FrameCode) (body : BodyView) (label : List ℕ) (line : Line) (rest : List Line)
@@ -68,7 +46,7 @@ pub anchor_made : (program : ProgramView) (code : FrameCode) (body : BodyView) (
 anchor_made program code body label line rest is stands anchor =
     let Made : Line → Type 0 = λ line. is_anchor line.label ≡ true → 0 < depth code in
     let made : Made line = All-from_label Made label body.lines line rest is.anchors stands in
-    made (ap is_anchor (label_found label body.lines line rest stands) ∙ anchor)
+    made (ap is_anchor (label-from_label label body.lines line rest stands) ∙ anchor)
 
 -- the top one of these frames runs this code
 abbrev pub HasTop : FrameCode → List Frame → Type 0

@@ -1,21 +1,17 @@
 -- Where a run of the text rests.
-use Rattle.std.proofs.Common.{◌≡◌, ◌+◌, ◌-◌, ◌≤◌, ⊎_elim, ℕ, zero, suc, List, Option, None, Some, IsSome, inl, inr, refl, sym, ◌∙◌, subst, ap, arith}
+use Rattle.std.proofs.Common.{◌≡◌, ◌+◌, ◌-◌, ◌≤◌, ⊎_elim, ℕ, zero, suc, List, IsSome, inl, inr, refl, sym, ◌∙◌, subst, ap, arith}
 use Rattle.std.proofs.lemmas.Bool.{cases_lt}
 use Rattle.sour_syntax.specs.declared.literal.Literal.{Literal}
 use Rattle.sour_syntax.specs.Program.{ProgramView}
-use Rattle.sour_semantics.specs.State.{State, Ending}
-use Rattle.sour_semantics.specs.Step.{step, text_choice, unless_ended}
+use Rattle.sour_semantics.specs.State.{State}
+use Rattle.sour_semantics.specs.Step.{step, text_choice}
 use Rattle.sour_semantics.specs.Run.{start, text_run, IsAtBudget, TextAt}
+use Rattle.sour_semantics.proofs.Runs.{unless_ended-stays}
 use Rattle.laws_runs.proofs.StepTurns.{Near-step}
-
--- what has ended stays, whatever the next state
-pub stays : (ending : Option Ending) (s t : State) → IsSome ending → unless_ended ending t s ≡ s
-stays None s t ended = cc
-stays (Some ending) s t ended = refl
 
 -- a run that has ended stays as it is
 pub step-ended : (program : ProgramView) (s : State) → IsSome s.ending → step program text_choice s ≡ s
-step-ended program s ended = stays s.ending s _ ended
+step-ended program s ended = unless_ended-stays s.ending s _ ended
 
 -- and so however many steps follow
 pub text_run-ended : (program : ProgramView) (count : ℕ) (s : State) → IsSome s.ending → text_run program count s ≡ s

@@ -21,16 +21,17 @@ use Rattle.sour_syntax.specs.Exits.{top_continuation, continuations, continuatio
 use Rattle.sour_syntax.specs.Labels.{from_label, first_label}
 use Rattle.sour_syntax.specs.Program.{ProgramView, IsProgram}
 use Rattle.sour_syntax.specs.Terminator.{IsTerminator}
+use Rattle.sour_syntax.proofs.Everywhere.{AllByRecursion-replicate}
 use Rattle.sour_semantics.specs.State.{Frame, FrameCode, State, Ending}
 use Rattle.sour_semantics.specs.Evaluation.{number_in, truth_in, function_in, operand, eval, eval_each, holds_each}
-use Rattle.sour_semantics.specs.Step.{Choice, Entry, exit_code, step, text_choice, body_or_empty, body_at, given, reads, makes, makes_empty, cell_limit, count_heap, writes, writes_array, writes_cell, prints, output_limit, takes_turn, branches, entered_code, enters, calls, returns, resumes, landed_frames, leaves, is_anchor, takes_exit_turn, assumes, stays, act, act_first, act_top, unless_ended, lines_of}
+use Rattle.sour_semantics.specs.Step.{Choice, Entry, exit_code, step, text_choice, body_at, given, reads, makes, makes_empty, cell_limit, count_heap, writes, writes_array, writes_cell, prints, output_limit, takes_turn, branches, entered_code, enters, calls, returns, resumes, landed_frames, leaves, is_anchor, takes_exit_turn, assumes, stays, act, act_first, act_top, unless_ended, lines_of}
 use Rattle.sour_semantics.specs.Run.{text_run}
 use Rattle.sour_semantics.specs.Text.{value_text}
 use Rattle.sour_semantics.specs.Agreement.{run_by}
 use Rattle.sour_semantics.specs.Validity.{IsStanding, IsValidFrame, IsValidEnding, IsValid, MayChoose}
+use Rattle.sour_semantics.proofs.Places.{lines_of-body}
 use Rattle.sour_semantics.proofs.Runs.{text_run-suc}
 use Rattle.laws_validity.proofs.Bodies.{depth, Leads, IsBodyOf, IsBodyOf-code}
-use Rattle.laws_validity.proofs.Lists.{AllByRecursion-replicate}
 use Rattle.laws_validity.proofs.Reached.{reached}
 use Rattle.laws_validity.proofs.Runs.{IsValid-run_by, run_by-text}
 use Rattle.laws_validity.proofs.Steps.{IsValid-step}
@@ -224,11 +225,6 @@ IsNearer-act program choice frame frames (Assume es exit) rest s behind checked 
     IsNearer-given program (depth frame.code * 4096 + suc (length rest)) s.turns (holds_each frame.environment s.heap es) _ _
     (λ holds. IsNearer-assumes program frame frames exit (stays choice frame.label holds) rest s (behind (λ none. none)) checked leads made)
 
--- the lines of a code are those of its body
-same_lines : (program : ProgramView) (code : FrameCode) (body : BodyView) → body_at program code ≡ Some body
-    → lines_of program code ≡ body.lines
-same_lines program code body runs = ap (λ (found : Option BodyView). (body_or_empty found).lines) runs
-
 -- the first of the lines that are left is carried out
 IsNearer-act_first : (program : ProgramView) (choice : Choice) (arrays : ℕ) (frame : Frame) (frames : List Frame) (lines : List Line) (s : State)
     → IsProgram program → IsValidFrame program arrays frame → from_label frame.label (lines_of program frame.code) ≡ lines
@@ -237,7 +233,7 @@ IsNearer-act_first : (program : ProgramView) (choice : Choice) (arrays : ℕ) (f
 IsNearer-act_first program choice arrays frame frames [] s checked valid stands = λ going same. absurd (cc)
 IsNearer-act_first program choice arrays frame frames (line ∷ rest) s checked valid stands =
     let one : IsBodyOf program frame.code valid.body = IsBodyOf-code program frame.code valid.body checked valid.code valid.runs in
-    let lines : lines_of program frame.code ≡ valid.body.lines = same_lines program frame.code valid.body valid.runs in
+    let lines : lines_of program frame.code ≡ valid.body.lines = lines_of-body program frame.code valid.body valid.runs in
     let at : from_label frame.label valid.body.lines ≡ line ∷ rest = ap (from_label frame.label) (sym lines) ∙ stands in
     IsNearer-act program choice frame frames line.instr rest s
     (λ going. ap (λ (all : List Line). length (from_label (first_label rest) all)) lines
@@ -290,7 +286,7 @@ some_left program arrays [] checked valid stand = absurd stand
 some_left program arrays (frame ∷ frames) checked valid stand =
     let top : IsValidFrame program arrays frame = valid.0 in
     let one : IsBodyOf program frame.code top.body = IsBodyOf-code program frame.code top.body checked top.code top.runs in
-    let lines : lines_of program frame.code ≡ top.body.lines = same_lines program frame.code top.body top.runs in
+    let lines : lines_of program frame.code ≡ top.body.lines = lines_of-body program frame.code top.body top.runs in
     omega (
       arith,
       some_lines (from_label frame.label (lines_of program frame.code))

@@ -13,10 +13,10 @@ use Rattle.sour_syntax.specs.declared.literal.VarId.{VarId}
 use Rattle.sour_syntax.specs.declared.trap.Trap.TheVariants.{HeapFull, Bounds}
 use Rattle.sour_syntax.specs.Program.{ProgramView}
 use Rattle.sour_syntax.specs.Scopes.{scope_after, following_labels}
+use Rattle.sour_syntax.proofs.Everywhere.{AllByRecursion-replicate}
 use Rattle.sour_semantics.specs.State.{Heap, Frame, trapped, State}
 use Rattle.sour_semantics.specs.Step.{ends, goes_to, sets, cell_limit, count_heap, next_array, makes, makes_empty, writes_cell, writes_array, writes}
 use Rattle.sour_semantics.specs.Validity.{IsValid, scope_of}
-use Rattle.laws_validity.proofs.Lists.{AllByRecursion-replicate}
 use Rattle.laws_validity.proofs.Values.{IsValueOf}
 use Rattle.laws_validity.proofs.Heaps.{IsValidHeap-made, IsValidHeap-written}
 use Rattle.laws_validity.proofs.Frames.{StandsBefore, IsValidFrame-moved}

@@ -1,11 +1,9 @@
 -- The body that a frame runs is that of a version of the program or one of a bundle of it.
-use Rattle.std.proofs.Common.{◌≡◌, ◌<◌, ◌≤◌, ◌+◌, ℕ, zero, suc, List, [], ◌∷◌, ◌++◌, true, false, ◌||◌, Option, None, Some, length, refl, sym, ap, ◌∙◌, subst, arith, append_assoc, length-append}
-use Rattle.std.specs.Prelude.{IfSome, IsTrue, nat_eq}
-use Rattle.std.specs.Char.{is_ascii_alphabetic}
+use Rattle.std.proofs.Common.{◌≡◌, ◌<◌, ◌≤◌, ◌+◌, ℕ, zero, suc, List, [], ◌∷◌, ◌++◌, true, false, Option, None, Some, length, refl, sym, ap, ◌∙◌, subst, arith, append_assoc, length-append}
+use Rattle.std.specs.Prelude.{IfSome}
 use Rattle.std.specs.List.{AllByRecursion, slice_get}
-use Rattle.std.proofs.lemmas.Bool.{eqb-true}
-use Rattle.std.proofs.lemmas.List.{length-replicate, length-set}
-use Rattle.std.proofs.lemmas.Option.{IfSome_then, same_Some, none-some}
+use Rattle.std.proofs.lemmas.Bool.{false≢true}
+use Rattle.std.proofs.lemmas.Option.{IfSome_then, same_Some, none-some, slice_get_within}
 use Rattle.sour_syntax.specs.declared.exit.Code.{Code}
 use Rattle.sour_syntax.specs.declared.exit.Code.TheVariants.{Text, Made}
 use Rattle.sour_syntax.specs.declared.instruction.Line.{Line}
@@ -16,14 +14,16 @@ use Rattle.sour_syntax.specs.declared.program.Version.{Version}
 use Rattle.sour_syntax.specs.Body.{IsBody}
 use Rattle.sour_syntax.specs.BodyView.{BodyView}
 use Rattle.sour_syntax.specs.Exits.{Continuation, continuations_of, bound_names}
-use Rattle.sour_syntax.specs.Program.{ProgramView, BeginsPlain, HasLiterals, IsPlainName, IsVersion, IsFunction, AreFunctions, IsProgram}
+use Rattle.sour_syntax.specs.Program.{ProgramView, HasLiterals, IsPlainName, IsVersion, IsFunction, AreFunctions, IsProgram}
 use Rattle.sour_syntax.specs.Scopes.{Scope, scope_with, IsLineAt, HasScope}
 use Rattle.sour_syntax.specs.Targets.{version_body, text_body, named_body, scope_of_names, Lands}
+use Rattle.sour_syntax.proofs.Everywhere.{AllByRecursion-weaker, IfSome-slice_get, slice_get-front}
+use Rattle.sour_syntax.proofs.NamedScopes.{length-scope_of_names}
 use Rattle.sour_semantics.specs.State.{FrameCode, text, made}
 use Rattle.sour_semantics.specs.Step.{body_at, exit_code, is_anchor}
 use Rattle.sour_semantics.specs.Shape.{HasMadeLabel, IsMadeBody, AreMadeBodies}
 use Rattle.sour_semantics.specs.Validity.{IsCode}
-use Rattle.laws_validity.proofs.Lists.{AllByRecursion-weaker, IfSome-slice_get, slice_get-front, slice_get-within}
+use Rattle.sour_semantics.proofs.Anchors.{plain-no_anchor}
 
 -- the number of a body in its bundle; a version of the text has none, and counts as 0
 abbrev pub depth : FrameCode → ℕ
@@ -58,11 +58,6 @@ pub record IsBodyOf (program : ProgramView) (code : FrameCode) (body : BodyView)
       → HasScope body count label scope → IsLineAt body label line rest
       → AllByRecursion (Leads program code) (continuations_of line.instr)
 
--- the scope of some variables says of each of the body whether it is one of them
-length-scope_of_names : (count : ℕ) (xs : List VarId) → length (scope_of_names count xs) ≡ count
-length-scope_of_names count [] = length-replicate count false
-length-scope_of_names count (x ∷ xs) = length-set (scope_of_names count xs) x.0 true ∙ length-scope_of_names count xs
-
 -- where a continuation lands it leads, if what it names stands below the code
 Leads-lands : (program : ProgramView) (from : FrameCode) (bodies : List BodyView) (continuation : Continuation)
     → ((body : BodyView) → named_body program.functions bodies continuation.target.code ≡ Some body
@@ -77,7 +72,7 @@ Leads-lands program from bodies continuation below lands =
       count = lands.count;
       path = lands.path;
       waits = IfSome_then continuation.waits {P = λ x. slice_get scope x ≡ Some false} {Q = λ x. x < length lands.body.variables} lands.free
-          (λ x free. omega (arith, slice_get-within scope x false free, length-scope_of_names (length lands.body.variables) names));
+          (λ x free. omega (arith, slice_get_within scope x false free, length-scope_of_names (length lands.body.variables) names));
     }
 
 -- an exit of a version names a version
@@ -100,20 +95,8 @@ NamesBelow-made program bodies earlier behind own (Made (suc place)) body fine w
     record {
       found = subst Found (sym whole) (slice_get-front earlier behind place body found);
       fine = fine;
-      lower = λ above. omega (arith, below, slice_get-within earlier place body found);
+      lower = λ above. omega (arith, below, slice_get_within earlier place body found);
     }
-
--- a plain name isn't that of an anchor
-plain_first : (byte : ℕ) → IsTrue (is_ascii_alphabetic byte || nat_eq byte 95) → nat_eq byte 64 ≡ true → ⊥
-plain_first byte plain same =
-    let Plain : ℕ → Type 0 = λ byte. IsTrue (is_ascii_alphabetic byte || nat_eq byte 95) in
-    let same : false ≡ true = subst Plain (eqb-true byte 64 same) plain in
-    absurd (cc)
-
--- neither is a whole label
-no_anchor : (label : List ℕ) → BeginsPlain label → is_anchor label ≡ true → ⊥
-no_anchor [] plain anchor = plain
-no_anchor (byte ∷ bytes) plain anchor = plain_first byte plain anchor
 
 -- the body of a version
 IsBodyOf-version : (program : ProgramView) (function : FunId) (place number : ℕ) (parameters : List (List ℕ)) (version : Version)
@@ -125,7 +108,7 @@ IsBodyOf-version program function place number parameters version is = record {
   low = omega arith;
   anchors = AllByRecursion-weaker (λ (line : Line). IsPlainName line.label)
       (λ (line : Line). is_anchor line.label ≡ true → 0 < depth (text function place))
-      (λ line plain anchor. absurd (no_anchor line.label plain.begins anchor)) version.body.lines is.labels;
+      (λ line plain anchor. absurd (false≢true (sym (plain-no_anchor line.label plain.begins) ∙ anchor))) version.body.lines is.labels;
   leads = λ count label scope line rest path at.
       AllByRecursion-weaker (Lands program.functions []) (Leads program (text function place))
       (λ continuation. Leads-lands program (text function place) [] continuation

@@ -1,9 +1,8 @@
 -- How a valid frame goes further.
-use Rattle.std.proofs.Common.{◌≡◌, ◌<◌, ◌≤◌, ◌-◌, ℕ, zero, suc, List, [], ◌∷◌, ◌++◌, true, false, Option, None, Some, set, map, length, replicate, refl, sym, ap, ◌∙◌, subst, Contains}
+use Rattle.std.proofs.Common.{◌≡◌, ◌<◌, ◌≤◌, ◌-◌, ℕ, suc, List, [], ◌∷◌, Option, None, Some, set, map, length, replicate, refl, sym, ap, ◌∙◌, subst, Contains}
 use Rattle.std.specs.Prelude.{IfSome, is_some}
-use Rattle.std.specs.List.{AllByRecursion, slice_get}
-use Rattle.std.proofs.lemmas.List.{map-set, set-get_or, length-map}
-use Rattle.std.proofs.lemmas.Option.{get_or_from_slice_get}
+use Rattle.std.specs.List.{AllByRecursion}
+use Rattle.std.proofs.lemmas.List.{map-set, length-map}
 use Rattle.sour_syntax.specs.declared.instruction.Instr.{Instr}
 use Rattle.sour_syntax.specs.declared.instruction.Line.{Line}
 use Rattle.sour_syntax.specs.declared.literal.Value.{Value}
@@ -13,20 +12,16 @@ use Rattle.sour_syntax.specs.Labels.{first_label}
 use Rattle.sour_syntax.specs.Exits.{continuations_of}
 use Rattle.sour_syntax.specs.Literals.{literals_of}
 use Rattle.sour_syntax.specs.Program.{ProgramView, IsProgram}
-use Rattle.sour_syntax.specs.Scopes.{Scope, mentioned, scope_after, following_labels, first_scope, scope_with, IsLineAt, HasScope, IsFine}
+use Rattle.sour_syntax.specs.Scopes.{Scope, mentioned, scope_after, following_labels, scope_with, IsLineAt, HasScope, IsFine}
+use Rattle.sour_syntax.proofs.Everywhere.{AllByRecursion-weaker, AllByRecursion-append, AllByRecursion-set, AllByRecursion-replicate}
 use Rattle.sour_syntax.proofs.NoExits.{All-from_label}
 use Rattle.sour_syntax.proofs.ScopeLists.{length-HasScope}
 use Rattle.sour_semantics.specs.State.{Environment, Frame, FrameCode}
-use Rattle.sour_semantics.specs.Step.{body_at, first_environment, entered_frame}
+use Rattle.sour_semantics.specs.Step.{body_at, entered_frame}
 use Rattle.sour_semantics.specs.Validity.{IsValue, IsKept, IsCode, IsValidFrame, scope_of}
-use Rattle.laws_validity.proofs.Lists.{AllByRecursion-weaker, AllByRecursion-append, AllByRecursion-set, AllByRecursion-replicate}
+use Rattle.sour_semantics.proofs.Environments.{scope_of-first}
 use Rattle.laws_validity.proofs.Bodies.{Leads, IsBodyOf, IsBodyOf-code}
 use Rattle.laws_validity.proofs.Values.{IsLiteralOf, IsKept-more}
-
--- a value put where there is one already leaves the same variables with values
-pub set-same : (scope : Scope) (place : ℕ) → slice_get scope place ≡ Some true → set scope place true ≡ scope
-set-same scope place found =
-    ap (set scope place) (sym (get_or_from_slice_get scope place true true found)) ∙ set-get_or scope place true
 
 -- a frame stays valid when there are more arrays
 pub IsValidFrame-more : (program : ProgramView) (few many : ℕ) → few ≤ many → (frame : Frame) → IsValidFrame program few frame
@@ -136,24 +131,6 @@ IsValidFrame-resumed program arrays frame variable value valid waits is =
       values = AllByRecursion-set (IsKept (length program.functions) arrays) frame.environment variable (Some value) valid.values is;
       place = tt;
     }
-
--- no variable of a row without values is in scope
-pub scope_of-none : (count : ℕ) → scope_of (replicate count None) ≡ replicate count false
-scope_of-none zero = refl
-scope_of-none (suc count) = ap (λ (scope : Scope). false ∷ scope) (scope_of-none count)
-
--- a variable is in scope for each value with which a frame begins
-scope_of-values : (values : List Value) (count : ℕ)
-    → scope_of (map Some values ++ replicate count None) ≡ replicate (length values) true ++ replicate count false
-scope_of-values [] count = scope_of-none count
-scope_of-values (value ∷ values) count = ap (λ (scope : Scope). true ∷ scope) (scope_of-values values count)
-
--- a frame begins with the scope of the parameters
-scope_of-first : (body : BodyView) (values : List Value) → length values ≡ body.parameters
-    → scope_of (first_environment body values) ≡ first_scope body
-scope_of-first body values same =
-    scope_of-values values (length body.variables - length values)
-    ∙ ap (λ (count : ℕ). replicate count true ++ replicate (length body.variables - count) false) same
 
 -- values with which a frame begins are kept as such
 are_kept : (functions arrays : ℕ) (values : List Value) → AllByRecursion (IsValue functions arrays) values

@@ -1,31 +1,15 @@
 -- How a heap gets one more array, and how a cell of it is written.
-use Rattle.std.proofs.Common.{◌≡◌, ◌≤◌, ◌+◌, ℕ, zero, suc, List, [], ◌∷◌, ◌++◌, Some, length, set, sym, ap, ◌∙◌, subst, arith}
+use Rattle.std.proofs.Common.{◌≡◌, ◌≤◌, ◌+◌, ℕ, List, [], ◌∷◌, ◌++◌, Some, length, set, sym, subst, arith}
 use Rattle.std.specs.List.{AllByRecursion, slice_get}
 use Rattle.std.proofs.lemmas.List.{length-set, length_push}
-use Rattle.std.proofs.lemmas.Option.{same_Some, none-some}
 use Rattle.sour_syntax.specs.declared.literal.Value.{Value}
 use Rattle.sour_syntax.specs.Program.{ProgramView}
+use Rattle.sour_syntax.proofs.Everywhere.{AllByRecursion-weaker, AllByRecursion-append, AllByRecursion-found, AllByRecursion-set}
 use Rattle.sour_semantics.specs.State.{Heap}
 use Rattle.sour_semantics.specs.Step.{count_heap, cell_limit}
 use Rattle.sour_semantics.specs.Validity.{IsValue, IsValidHeap}
-use Rattle.laws_validity.proofs.Lists.{AllByRecursion-weaker, AllByRecursion-append, AllByRecursion-found, AllByRecursion-set}
+use Rattle.sour_semantics.proofs.Heaps.{count_heap-push, count_heap-set}
 use Rattle.laws_validity.proofs.Values.{IsValueOf, IsValue-more}
-
--- how many cells there are with one more array
-count_heap-append : (heap : Heap) (cells : List Value) → count_heap (heap ++ cells ∷ []) ≡ count_heap heap + length cells
-count_heap-append [] cells = omega arith
-count_heap-append (first ∷ heap) cells =
-    let rest : count_heap (heap ++ cells ∷ []) ≡ count_heap heap + length cells = count_heap-append heap cells in
-    omega (arith, rest)
-
--- there are as many cells when an array gives way to one that is as long
-count_heap-set : (heap : Heap) (place : ℕ) (old new : List Value) → slice_get heap place ≡ Some old → length new ≡ length old
-    → count_heap (set heap place new) ≡ count_heap heap
-count_heap-set [] place old new found same = absurd (none-some old found)
-count_heap-set (first ∷ heap) zero old new found same =
-    ap (λ (count : ℕ). count + count_heap heap) (same ∙ sym (ap length (same_Some first old found)))
-count_heap-set (first ∷ heap) (suc place) old new found same =
-    ap (λ (count : ℕ). length first + count) (count_heap-set heap place old new found same)
 
 -- a heap stays valid with one more array of values, if there is room for it
 pub IsValidHeap-made : (program : ProgramView) (heap : Heap) (cells : List Value) → IsValidHeap program heap
@@ -38,7 +22,7 @@ IsValidHeap-made program heap cells valid are room =
     → AllByRecursion (IsValueOf program (heap ++ cells ∷ [])) row =
     AllByRecursion-weaker (IsValueOf program heap) (IsValueOf program (heap ++ cells ∷ [])) more in
     record {
-      cells = omega (arith, count_heap-append heap cells, room);
+      cells = omega (arith, count_heap-push heap cells, room);
       values = AllByRecursion-append (AllByRecursion (IsValueOf program (heap ++ cells ∷ []))) heap (cells ∷ [])
           (AllByRecursion-weaker (AllByRecursion (IsValueOf program heap)) (AllByRecursion (IsValueOf program (heap ++ cells ∷ [])))
           more_each heap valid.values)

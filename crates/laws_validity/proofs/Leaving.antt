@@ -1,8 +1,8 @@
 -- A valid state stays valid when the top frame leaves by an exit.
-use Rattle.std.proofs.Common.{◌≡◌, ◌<◌, ℕ, zero, suc, List, [], ◌∷◌, ◌++◌, Bool, true, false, Option, None, Some, Result, Ok, Err, set, map, length, replicate, refl, sym, ap, ◌∙◌, subst, arith}
-use Rattle.std.specs.Prelude.{IfOk, IfSome, is_some}
+use Rattle.std.proofs.Common.{◌≡◌, ◌<◌, ℕ, List, [], ◌∷◌, ◌++◌, Bool, true, false, Option, None, Some, Result, Ok, Err, set, map, length, replicate, refl, sym, ap, ◌∙◌, subst, arith}
+use Rattle.std.specs.Prelude.{IfOk, IfSome}
 use Rattle.std.specs.List.{AllByRecursion}
-use Rattle.std.proofs.lemmas.List.{map-set, length-map, length-replicate, length-set}
+use Rattle.std.proofs.lemmas.List.{length-map, length-replicate}
 use Rattle.sour_syntax.specs.declared.exit.Bind.{Bind}
 use Rattle.sour_syntax.specs.declared.exit.Exit.{Exit}
 use Rattle.sour_syntax.specs.declared.exit.Extra.{Extra}
@@ -17,51 +17,18 @@ use Rattle.sour_syntax.specs.Literals.{literals_of_expr, literals_of_each}
 use Rattle.sour_syntax.specs.Program.{ProgramView}
 use Rattle.sour_syntax.specs.Scopes.{Scope, HasScope, scope_with}
 use Rattle.sour_syntax.specs.Targets.{scope_of_names}
+use Rattle.sour_syntax.proofs.Everywhere.{AllByRecursion-append, AllByRecursion-parts, AllByRecursion-replicate, AllByRecursion-set}
 use Rattle.sour_semantics.specs.State.{Environment, Heap, Frame, FrameCode, State}
 use Rattle.sour_semantics.specs.Evaluation.{eval, eval_each}
 use Rattle.sour_semantics.specs.Step.{body_or_empty, body_of, exit_code, bound, landed_frame, landed, landed_frames, leaves, is_anchor, takes_exit_turn, takes_turn, assumes}
 use Rattle.sour_semantics.specs.Validity.{IsKept, IsValidFrame, IsValidHeap, Waits, IsStanding, IsValid, scope_of}
-use Rattle.laws_validity.proofs.Lists.{AllByRecursion-append, AllByRecursion-parts, AllByRecursion-replicate, AllByRecursion-set}
+use Rattle.sour_semantics.proofs.Environments.{length-bound, scope_of-landed}
 use Rattle.laws_validity.proofs.Values.{IsValueOf, IsKeptOf, IsLiteralOf, IfOk-both, IfOk-any, IfOk-in_front, IfOk-eval_each}
 use Rattle.laws_validity.proofs.Bodies.{Leads}
-use Rattle.laws_validity.proofs.Frames.{StandsBefore, IsValidFrame-moved, scope_of-none}
+use Rattle.laws_validity.proofs.Frames.{StandsBefore, IsValidFrame-moved}
 use Rattle.laws_validity.proofs.States.{going, IsValid-moved, IsValid-given, IsValid-turn}
 
--- a scope with these variables too
-abbrev with_names : Scope → List VarId → Scope
-with_names scope [] = scope
-with_names scope (x ∷ xs) = set (with_names scope xs) x.0 true
-
--- of two variables that come into a scope it doesn't matter which is first
-set-swap : (scope : Scope) (x y : ℕ) → set (set scope x true) y true ≡ set (set scope y true) x true
-set-swap [] x y = refl
-set-swap (first ∷ scope) zero zero = refl
-set-swap (first ∷ scope) zero (suc y) = refl
-set-swap (first ∷ scope) (suc x) zero = refl
-set-swap (first ∷ scope) (suc x) (suc y) = ap (λ (others : Scope). first ∷ others) (set-swap scope x y)
-
--- nor does it where there are more
-with_names-set : (scope : Scope) (x : ℕ) (xs : List VarId) → with_names (set scope x true) xs ≡ set (with_names scope xs) x true
-with_names-set scope x [] = refl
-with_names-set scope x (y ∷ xs) =
-    ap (λ (other : Scope). set other y.0 true) (with_names-set scope x xs) ∙ set-swap (with_names scope xs) x y.0
-
--- the scope of variables in a body is the empty one with them
-with_names-none : (count : ℕ) (xs : List VarId) → with_names (replicate count false) xs ≡ scope_of_names count xs
-with_names-none count [] = refl
-with_names-none count (x ∷ xs) = ap (λ (scope : Scope). set scope x.0 true) (with_names-none count xs)
-
--- a row in which some variables get values has them in scope too
-scope_of-bound : (row : Environment) (names : List VarId) (values : List Value) → length values ≡ length names
-    → scope_of (bound row names values) ≡ with_names (scope_of row) names
-scope_of-bound row [] values same = refl
-scope_of-bound row (x ∷ names) [] same = absurd (omega (arith, same))
-scope_of-bound row (x ∷ names) (value ∷ values) same =
-    scope_of-bound (set row x.0 (Some value)) names values (omega (arith, same))
-    ∙ ap (λ (scope : Scope). with_names scope names) (map-set is_some row x.0 (Some value))
-    ∙ with_names-set (scope_of row) x.0 names
-
--- and what it keeps are values
+-- a row in which some variables get values keeps values
 are_bound : (functions arrays : ℕ) (row : Environment) (names : List VarId) (values : List Value)
     → AllByRecursion (IsKept functions arrays) row → AllByRecursion (λ (value : Value). IsKept functions arrays (Some value)) values
     → AllByRecursion (IsKept functions arrays) (bound row names values)
@@ -70,13 +37,6 @@ are_bound functions arrays row (x ∷ names) [] all are = all
 are_bound functions arrays row (x ∷ names) (value ∷ values) all are =
     are_bound functions arrays (set row x.0 (Some value)) names values
     (AllByRecursion-set (IsKept functions arrays) row x.0 (Some value) all are.0) are.1
-
--- a row has as many places when some variables get values
-length-bound : (row : Environment) (names : List VarId) (values : List Value) → length (bound row names values) ≡ length row
-length-bound row [] values = refl
-length-bound row (x ∷ names) [] = refl
-length-bound row (x ∷ names) (value ∷ values) =
-    length-bound (set row x.0 (Some value)) names values ∙ length-set row x.0 (Some value)
 
 -- as many values of the run as there are variables in a map
 abbrev AreFor : ProgramView → Heap → Continuation → List Value → Type 0
@@ -93,9 +53,7 @@ IsValidFrame-landed program from heap continuation values leads are =
     let count : ℕ = length (body_of program code).variables in
     let known : body_of program code ≡ leads.body = ap body_or_empty leads.names.found in
     let scope : scope_of_names (length leads.body.variables) names ≡ scope_of (bound (replicate count None) names values) =
-    sym (scope_of-bound (replicate count None) names values are.0
-    ∙ ap (λ (scope : Scope). with_names scope names) (scope_of-none count)
-    ∙ with_names-none count names
+    sym (scope_of-landed count names values are.0
     ∙ ap (λ (body : BodyView). scope_of_names (length body.variables) names) known) in
     let Placed : ℕ → Type 0 = λ count. IfSome continuation.waits (λ x. x < count) in
     let places : length leads.body.variables ≡ length (bound (replicate count None) names values) =

@@ -1,4 +1,3 @@
-pub mod Lists
 pub mod Bodies
 pub mod Values
 pub mod Heaps

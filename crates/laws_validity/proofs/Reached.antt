@@ -1,5 +1,5 @@
 -- A label to which a path leads is that of a line.
-use Rattle.std.proofs.Common.{◌≡◌, ◌≢◌, ◌⊎◌, inl, inr, ⊎_elim, ℕ, zero, suc, List, [], ◌∷◌, Bool, true, false, cond, refl, sym, ap, ◌∙◌, subst, arith, Contains}
+use Rattle.std.proofs.Common.{◌≡◌, ◌≢◌, ◌⊎◌, inl, inr, ⊎_elim, ℕ, zero, suc, List, [], ◌∷◌, Bool, true, false, cond, refl, sym, ap, ◌∙◌, subst, Contains}
 use Rattle.std.specs.List.{AllByRecursion}
 use Rattle.std.specs.Str.{bytes_eq}
 use Rattle.std.proofs.lemmas.List.Elements.{All-from_recursion, All-contains, All-map}
@@ -13,7 +13,8 @@ use Rattle.sour_syntax.specs.Jumps.{named_labels}
 use Rattle.sour_syntax.specs.Labels.{from_label, first_label, labels_of}
 use Rattle.sour_syntax.specs.Scopes.{Scope, following_labels, HasScope}
 use Rattle.sour_syntax.specs.Terminator.{IsTerminator, EndsInTerminator}
-use Rattle.sour_syntax.proofs.NoExits.{All-from_label}
+use Rattle.sour_syntax.proofs.Everywhere.{Contains-one}
+use Rattle.sour_syntax.proofs.NoExits.{taken, All-from_label}
 
 -- no line has this label
 abbrev HaveNot : List ℕ → List Line → Type 0
@@ -37,27 +38,25 @@ first_at : (label : List ℕ) (lines : List Line) → EndsInTerminator lines →
 first_at label [] end is not = absurd end
 first_at label (line ∷ lines) end is not = not.0 (sym is)
 
--- the same of the first of the lines, by whether it is the one before
-next_first : (test : Bool) (label : List ℕ) (first : Line) (lines found : List Line) (line : Line) (rest : List Line)
+-- the same of the line behind the first, where that is the one before
+next_first : (label : List ℕ) (first : Line) (lines : List Line) (line : Line) (rest : List Line)
     → EndsInTerminator (first ∷ lines) → (IsTerminator line.instr → ⊥) → label ≡ first_label rest → HaveNot label lines
-    → (found ≡ line ∷ rest → ⊥) → cond test (first ∷ lines) found ≡ line ∷ rest → ⊥
-next_first true label first [] found line rest end going is not inner stands =
+    → first ≡ line → lines ≡ rest → ⊥
+next_first label first [] line rest end going is not same others =
     let Ends : Line → Type 0 = λ other. IsTerminator other.instr in
-    let same : first ≡ line = cc in
     going (subst Ends same end)
-next_first true label first (next ∷ lines) found line rest end going is not inner stands =
-    let same : rest ≡ next ∷ lines = cc in
-    not.0 (sym (is ∙ ap first_label same))
-next_first false label first lines found line rest end going is not inner stands = inner stands
+next_first label first (next ∷ lines) line rest end going is not same others = not.0 (sym (is ∙ ap first_label (sym others)))
 
 -- some line has the label of the one behind a line that is no terminator
 next_at : (from label : List ℕ) (lines : List Line) (line : Line) (rest : List Line) → EndsInTerminator lines
     → (IsTerminator line.instr → ⊥) → label ≡ first_label rest → HaveNot label lines → from_label from lines ≡ line ∷ rest → ⊥
 next_at from label [] line rest end going is not stands = absurd end
 next_at from label (first ∷ []) line rest end going is not stands =
-    next_first (bytes_eq first.label from) label first [] [] line rest end going is not.1 (λ (none : [] ≡ line ∷ rest). cc) stands
+    taken ⊥ (bytes_eq first.label from) first [] [] line rest (λ here. next_first label first [] line rest end going is not.1)
+    (λ (none : [] ≡ line ∷ rest). cc) stands
 next_at from label (first ∷ next ∷ lines) line rest end going is not stands =
-    next_first (bytes_eq first.label from) label first (next ∷ lines) (from_label from (next ∷ lines)) line rest end going is not.1
+    taken ⊥ (bytes_eq first.label from) first (next ∷ lines) (from_label from (next ∷ lines)) line rest
+    (λ here. next_first label first (next ∷ lines) line rest end going is not.1)
     (next_at from label (next ∷ lines) line rest end going is not.1) stands
 
 -- some line has a label that is among those of the lines
@@ -67,28 +66,23 @@ named_at label lines known not =
     All-contains differs (labels_of lines) label
     (All-map differs (λ (line : Line). line.label) lines (All-from_recursion (λ (line : Line). line.label ≢ label) lines not)) known refl
 
--- the one element of a list
-one : (next label : List ℕ) → Contains (next ∷ []) label → label ≡ next
-one next label (zero, within, same) = sym same
-one next label (suc place, within, same) = absurd (omega (arith, within))
-
 -- what follows an instruction is the line behind it, where it is no terminator, or has a label that it names
 followed : (instr : Instr) (next label : List ℕ) → Contains (following_labels instr next) label
     → ((IsTerminator instr → ⊥) × (label ≡ next)) ⊎ Contains (named_labels instr) label
-followed (Var x e) next label contains = inl ((λ none. none), one next label contains)
-followed (Drop x) next label contains = inl ((λ none. none), one next label contains)
-followed (Assign x e) next label contains = inl ((λ none. none), one next label contains)
-followed (ArrayLength x e) next label contains = inl ((λ none. none), one next label contains)
-followed (ArrayList x es) next label contains = inl ((λ none. none), one next label contains)
-followed (Store x index e) next label contains = inl ((λ none. none), one next label contains)
-followed (Print e) next label contains = inl ((λ none. none), one next label contains)
-followed (Read x) next label contains = inl ((λ none. none), one next label contains)
+followed (Var x e) next label contains = inl ((λ none. none), Contains-one next label contains)
+followed (Drop x) next label contains = inl ((λ none. none), Contains-one next label contains)
+followed (Assign x e) next label contains = inl ((λ none. none), Contains-one next label contains)
+followed (ArrayLength x e) next label contains = inl ((λ none. none), Contains-one next label contains)
+followed (ArrayList x es) next label contains = inl ((λ none. none), Contains-one next label contains)
+followed (Store x index e) next label contains = inl ((λ none. none), Contains-one next label contains)
+followed (Print e) next label contains = inl ((λ none. none), Contains-one next label contains)
+followed (Read x) next label contains = inl ((λ none. none), Contains-one next label contains)
 followed (Branch e a b) next label contains = inr contains
 followed (Goto a) next label contains = inr contains
-followed (Call x callee es) next label contains = inl ((λ none. none), one next label contains)
+followed (Call x callee es) next label contains = inl ((λ none. none), Contains-one next label contains)
 followed (Return e) next label contains = inr contains
 followed Stop next label contains = inr contains
-followed (Assume es exit) next label contains = inl ((λ none. none), one next label contains)
+followed (Assume es exit) next label contains = inl ((λ none. none), Contains-one next label contains)
 
 -- there are lines from a label on to which a path leads
 pub reached : (body : BodyView) (count : ℕ) (label : List ℕ) (scope : Scope) → IsBody body → HasScope body count label scope

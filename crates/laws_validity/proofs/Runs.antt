@@ -8,12 +8,12 @@ use Rattle.sour_syntax.specs.declared.program.Version.{Version}
 use Rattle.sour_syntax.specs.BodyView.{BodyView}
 use Rattle.sour_syntax.specs.Program.{ProgramView, IsProgram, HasMain}
 use Rattle.sour_syntax.specs.Targets.{version_body, text_body}
+use Rattle.sour_syntax.proofs.Everywhere.{AllByRecursion-replicate}
 use Rattle.sour_semantics.specs.State.{Heap, FrameCode, text, Ending, stuck, State}
 use Rattle.sour_semantics.specs.Step.{Choice, text_choice, step, body_at, body_or_empty, entered_frame}
 use Rattle.sour_semantics.specs.Run.{start_of, start, text_run}
 use Rattle.sour_semantics.specs.Validity.{IsCode, IsValidFrame, IsValid, IsValidEnding, MayChoose, MayStart}
 use Rattle.sour_semantics.specs.Agreement.{run_by}
-use Rattle.laws_validity.proofs.Lists.{AllByRecursion-replicate}
 use Rattle.laws_validity.proofs.Values.{IsLiteralOf}
 use Rattle.laws_validity.proofs.Frames.{IsValidFrame-entered}
 use Rattle.laws_validity.proofs.Steps.{IsValid-step}

@@ -14,10 +14,10 @@ use Rattle.sour_syntax.specs.declared.trap.Trap.{Trap}
 use Rattle.sour_syntax.specs.declared.trap.Trap.TheVariants.{OutputFull}
 use Rattle.sour_syntax.specs.Program.{ProgramView}
 use Rattle.sour_syntax.specs.Scopes.{scope_after, following_labels}
+use Rattle.sour_syntax.proofs.Everywhere.{AllByRecursion-weaker, AllByRecursion-set}
 use Rattle.sour_semantics.specs.State.{Environment, Heap, Frame, trapped, State}
 use Rattle.sour_semantics.specs.Step.{ends, goes_to, sets, takes_turn, given, branches, reads, prints, output_limit, resumes, returns}
 use Rattle.sour_semantics.specs.Validity.{IsValidFrame, IsValidHeap, Waits, IsValid, scope_of}
-use Rattle.laws_validity.proofs.Lists.{AllByRecursion-weaker, AllByRecursion-set}
 use Rattle.laws_validity.proofs.Values.{IsValueOf, IsKeptOf, IsLiteralOf}
 use Rattle.laws_validity.proofs.Frames.{moved, StandsBefore, IsValidFrame-more, IsValidFrame-moved, IsValidFrame-resumed}
 

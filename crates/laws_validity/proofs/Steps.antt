@@ -12,16 +12,17 @@ use Rattle.sour_syntax.specs.BodyView.{BodyView}
 use Rattle.sour_syntax.specs.Labels.{from_label, first_label}
 use Rattle.sour_syntax.specs.Literals.{simple_literals, literals_of_expr, literals_of_each}
 use Rattle.sour_syntax.specs.Program.{ProgramView, IsProgram}
+use Rattle.sour_syntax.proofs.Everywhere.{AllByRecursion-parts, AllByRecursion-set}
+use Rattle.sour_syntax.proofs.NamedScopes.{set-same}
 use Rattle.sour_semantics.specs.State.{Environment, Frame, Ending, State}
 use Rattle.sour_semantics.specs.Evaluation.{number_in, truth_in, function_in, operand, eval, eval_each, holds_each}
 use Rattle.sour_semantics.specs.Text.{value_text}
 use Rattle.sour_semantics.specs.Step.{Choice, body_or_empty, lines_of, takes_turn, stays, act, act_first, act_top, unless_ended, step}
 use Rattle.sour_semantics.specs.Validity.{IsValidFrame, IsValid, MayChoose, scope_of}
-use Rattle.laws_validity.proofs.Lists.{AllByRecursion-parts, AllByRecursion-set}
 use Rattle.laws_validity.proofs.Bodies.{IsBodyOf, IsBodyOf-code}
 use Rattle.laws_validity.proofs.Values.{IsValueOf, IsKeptOf, IsLiteralOf, IfOk-any, IfOk-eval, IfOk-eval_each}
 use Rattle.laws_validity.proofs.Reached.{reached}
-use Rattle.laws_validity.proofs.Frames.{set-same, StandsBefore, StandsBefore-frame, IsValidFrame-moved}
+use Rattle.laws_validity.proofs.Frames.{StandsBefore, StandsBefore-frame, IsValidFrame-moved}
 use Rattle.laws_validity.proofs.States.{going, IsValid-moved, IsValid-given, IsValid-turn, IsValid-branches, IsValid-set, IsValid-reads, IsValid-prints, IsValid-returns}
 use Rattle.laws_validity.proofs.Arrays.{IsValid-makes, IsValid-makes_empty, IsValid-writes}
 use Rattle.laws_validity.proofs.Calls.{IsValid-calls}

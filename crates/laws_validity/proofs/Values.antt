@@ -18,11 +18,11 @@ use Rattle.sour_syntax.specs.declared.trap.Trap.{Trap}
 use Rattle.sour_syntax.specs.declared.trap.Trap.TheVariants.{Overflow, ZeroDivisor}
 use Rattle.sour_syntax.specs.Literals.{is_i64, IsLiteral, simple_literals, literals_of_expr, literals_of_each}
 use Rattle.sour_syntax.specs.Program.{ProgramView}
+use Rattle.sour_syntax.proofs.Everywhere.{AllByRecursion-parts, IfSome-slice_get}
 use Rattle.sour_semantics.specs.State.{Environment, Heap}
 use Rattle.sour_semantics.specs.Evaluation.{number_in, truth_in, cells_of, number, divided, on_numbers, on_truths, negated, applied, cell_at, within_bounds, cell, length_of, value_or_nil, operand, eval, in_front, eval_each}
 use Rattle.sour_semantics.specs.Step.{count_heap, cell_limit}
 use Rattle.sour_semantics.specs.Validity.{IsValue, IsKept, IsValidHeap}
-use Rattle.laws_validity.proofs.Lists.{AllByRecursion-parts, IfSome-slice_get}
 
 -- a value of a run of this program over this heap
 abbrev pub IsValueOf : ProgramView → Heap → Value → Type 0

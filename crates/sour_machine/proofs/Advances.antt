@@ -1,5 +1,5 @@
 -- What the loop over the lines of a body keeps, and what its answers say.
-use Rattle.std.proofs.Common.{◌≡◌, ◌≢◌, ◌⊎◌, ℕ, zero, suc, ◌+◌, ◌<◌, ◌≤◌, List, [], ◌∷◌, Bool, true, false, None, Some, get_or, length, drop, map, reverse, Contains, refl, sym, ap, ◌∙◌, subst, inl, inr, arith}
+use Rattle.std.proofs.Common.{◌≡◌, ◌≢◌, ◌⊎◌, ℕ, suc, ◌+◌, ◌<◌, ◌≤◌, List, [], ◌∷◌, Bool, true, false, None, Some, get_or, length, drop, map, reverse, Contains, refl, sym, ap, ◌∙◌, subst, inl, inr, arith}
 use Rattle.std.specs.Prelude.{IsTrue}
 use Rattle.std.specs.List.{AllByRecursion, slice_get}
 use Rattle.std.proofs.lemmas.Bool.{false≢true}
@@ -22,9 +22,12 @@ use Rattle.sour_semantics.specs.State.{Environment, State}
 use Rattle.sour_semantics.specs.Step.{text_choice, body_or_empty, body_at, body_of, is_anchor, act, step}
 use Rattle.sour_semantics.specs.Run.{TakesTurn}
 use Rattle.sour_semantics.specs.Validity.{scope_of}
-use Rattle.sour_semantics.proofs.Places.{step-at_place}
-use Rattle.sour_syntax.proofs.LabelPlaces.{from_label-first_label-drop, drop-slice_get, lt-EndsInTerminator}
+use Rattle.sour_semantics.proofs.Anchors.{plain-no_anchor}
+use Rattle.sour_semantics.proofs.Places.{lines_of-body, step-at_place}
+use Rattle.sour_syntax.proofs.Everywhere.{AllByRecursion-found, Contains-one}
+use Rattle.sour_syntax.proofs.LabelPlaces.{from_label-first_label-drop, drop-slice_get, EndsInTerminator-from, lt-EndsInTerminator}
 use Rattle.sour_syntax.proofs.Following.{following_within}
+use Rattle.sour_syntax.proofs.JumpPlaces.{length-GoTo, goes_at}
 use Rattle.sour_machine.specs.declared.activation.Waiting.{Waiting}
 use Rattle.sour_machine.specs.declared.moment.Moment.{Moment}
 use Rattle.sour_machine.specs.declared.report.End.{End}
@@ -35,10 +38,8 @@ use Rattle.sour_machine.specs.Instruction.{IsReady, ActsAs, IsCrossing, LeadsOut
 use Rattle.sour_machine.specs.Moment.{state_at, run_at, Stands}
 use Rattle.sour_machine.specs.Run.{GoesOn, IsAtTurns, is_call, first_calls, top_calls}
 use Rattle.sour_machine.specs.Want.{TakesMemoryInside, TakesMemory, WantsMemory}
-use Rattle.sour_machine.proofs.Checked.{IsTextBody-runs, plain-anchor}
-use Rattle.sour_machine.proofs.Scopes.{All-at}
-use Rattle.sour_machine.proofs.FrameLaws.{frame_lines-are}
-use Rattle.sour_machine.proofs.Jumps.{GoesTo-at, length-GoTo, Contains-following_labels, All-Contains, Contains-one}
+use Rattle.sour_machine.proofs.Checked.{IsTextBody-runs}
+use Rattle.sour_machine.proofs.Jumps.{Contains-following_labels, All-Contains}
 use Rattle.sour_machine.proofs.Instructions.{turns_jumping, turns_inside, turns-crosses}
 use Rattle.sour_machine.proofs.Measure.{before, before-turn, before-line}
 use Rattle.sour_machine.proofs.RunLaws.{entered-none, GoesOn-one, GoesOn-on}
@@ -60,8 +61,8 @@ plain-line program moment line body checked runs found =
     let all = frame_lines program moment.frame in
     let Found : List Line → Type 0 = λ lines. slice_get lines place ≡ Some line in
     let Plain : Line → Type 0 = λ line. IsPlainName line.label in
-    let plain : IsPlainName line.label = All-at Plain body.lines place line (subst Found (frame_lines-are program moment.frame body runs) found) (IsTextBody-runs program moment.frame.code body checked runs).labels in
-    ap (λ lines. is_anchor (first_label lines)) (drop-slice_get all place line found) ∙ plain-anchor line.label plain
+    let plain : IsPlainName line.label = AllByRecursion-found Plain body.lines place line (IsTextBody-runs program moment.frame.code body checked runs).labels (subst Found (lines_of-body program (code_of moment.frame.code) body runs) found) in
+    ap (λ lines. is_anchor (first_label lines)) (drop-slice_get all place line found) ∙ plain-no_anchor line.label plain.begins
 
 -- the body that the top frame runs
 pub body_of-runs : (program : ProgramView) (moment : Moment) (body : BodyView) → body_at program (code_of moment.frame.code) ≡ Some body → body_of program (code_of moment.frame.code) ≡ body
@@ -76,7 +77,7 @@ IsAt-lines program moment body lines default checked body_is lines_are differ te
     let Differ : List Line → Type 0 = LabelsDiffer in
     let Ends : List Line → Type 0 = EndsInTerminator in
     let same : lines ≡ all = lines_are ∙ ap (λ (b : BodyView). b.lines) (sym body_is) in
-    let own : all ≡ stands.body.lines = frame_lines-are program moment.frame stands.body stands.runs in
+    let own : all ≡ stands.body.lines = lines_of-body program (code_of moment.frame.code) stands.body stands.runs in
     let inside : place < length stands.body.lines = lt-EndsInTerminator stands.body.lines place (stands.line (subst Ends (same ∙ own) terminated)) in
     let counts : length all ≡ length stands.body.lines = ap length own in
     let within : place < length all = omega (arith, inside, counts) in
@@ -96,7 +97,7 @@ pub GoesTo-jumps : (program : ProgramView) (moment : Moment) (line : Line) (body
     → GoTo body.lines body.lines jumps → GoesTo (frame_lines program moment.frame) line.instr (jump_at jumps moment.frame.place)
 GoesTo-jumps program moment line body jumps at body_is go =
     let Go : BodyView → Type 0 = λ body. GoTo body.lines body.lines jumps in
-    GoesTo-at (frame_lines program moment.frame) (frame_lines program moment.frame) jumps moment.frame.place line (record { first = 0; second = 0 }) (subst Go (sym body_is) go) at.found
+    goes_at (frame_lines program moment.frame) jumps moment.frame.place line (record { first = 0; second = 0 }) (subst Go (sym body_is) go) at.found
 
 -- the line that the loop reads, and the jump at its place
 pub record Reads (program : ProgramView) (moment : Moment) (body : BodyView) (line : Line) (jumps : List Jump) : Type 0 where
@@ -133,7 +134,7 @@ pub IsLineAt-body : (program : ProgramView) (moment : Moment) (line : Line) (bod
     → IsLineAt body (label_at body.lines moment.frame.place) line (drop (moment.frame.place + 1) body.lines)
 IsLineAt-body program moment line body runs at =
     let Stands : List Line → Type 0 = λ lines. from_label (label_at lines moment.frame.place) lines ≡ line ∷ drop (moment.frame.place + 1) lines in
-    record { stands = subst Stands (frame_lines-are program moment.frame body runs) (from_label-place program moment line at) }
+    record { stands = subst Stands (lines_of-body program (code_of moment.frame.code) body runs) (from_label-place program moment line at) }
 
 -- each variable that the line needs has a value
 pub IsReady-line : (program : ProgramView) (moment : Moment) (line : Line) (body : BodyView) → IsAt program moment line → body_of program (code_of moment.frame.code) ≡ body
@@ -151,7 +152,7 @@ IsReady-line program moment line body at body_is scopes mentions stands =
     let all : MentionsItsVariables own = subst Mentions same mentions in
     record {
       needs = (has.fine stands.count (label_at own.lines place) (scope_of moment.frame.env) line (drop (place + 1) own.lines) stands.path (IsLineAt-body program moment line stands.body stands.runs at)).needs;
-      mentions = subst Each (sym stands.row) (All-at Line_mentions own.lines place line (subst Found (frame_lines-are program moment.frame stands.body stands.runs) at.found) all);
+      mentions = subst Each (sym stands.row) (AllByRecursion-found Line_mentions own.lines place line all (subst Found (lines_of-body program (code_of moment.frame.code) stands.body stands.runs) at.found));
     }
 
 -- the continuations of the line name what is there, and land where their maps fit the scope
@@ -160,8 +161,8 @@ pub IsNamed-line : (program : ProgramView) (moment : Moment) (line : Line) → I
 IsNamed-line program moment line checked at stands =
     let Found : List Line → Type 0 = λ lines. slice_get lines moment.frame.place ≡ Some line in
     let Named : Line → Type 0 = λ line. AllByRecursion (IsNamed program.functions []) (continuations_of line.instr) in
-    All-at Named stands.body.lines moment.frame.place line (subst Found (frame_lines-are program moment.frame stands.body stands.runs) at.found)
-    (IsTextBody-runs program moment.frame.code stands.body checked stands.runs).exits.named
+    AllByRecursion-found Named stands.body.lines moment.frame.place line (IsTextBody-runs program moment.frame.code stands.body checked stands.runs).exits.named
+    (subst Found (lines_of-body program (code_of moment.frame.code) stands.body stands.runs) at.found)
 
 -- where a continuation of the line lands, exactly its map's variables and the one that waits are in scope
 pub Lands-line : (program : ProgramView) (moment : Moment) (line : Line) → IsProgram program → IsAt program moment line → StandsAtLine program moment.frame None
@@ -283,19 +284,12 @@ before-act program budget old new line jump at after left comes =
     before-moved budget (length (frame_lines program old.frame)) old new (jumps_away line.instr) at.going at.within after left
     (λ stays going. next_line line.instr jump (old.frame.place + 1) new.frame.place stays (subst Comes going comes).place)
 
--- from a place of lines that end in a terminator on they end in one
-ends_from : (lines : List Line) (place : ℕ) → place < length lines → EndsInTerminator lines → EndsInTerminator (drop place lines)
-ends_from [] place within end = absurd end
-ends_from (line ∷ lines) zero within end = end
-ends_from (line ∷ []) (suc place) within end = absurd (omega arith)
-ends_from (line ∷ next ∷ lines) (suc place) within end = ends_from (next ∷ lines) place (omega arith) end
-
 -- where the run goes on there is a line, and the path goes on to it
 StandsAtLine-act : (program : ProgramView) (old new : Moment) (line : Line) (jump : Jump) → IsAt program old line → GoesTo (frame_lines program old.frame) line.instr jump → StaysInFrame old new
     → GoesFurther line.instr (following line.instr jump (old.frame.place + 1)) old.frame.env new → StandsAtLine program old.frame None → StandsAtLine program new.frame None
 StandsAtLine-act program old new line jump at goes stays further stands =
     let all = frame_lines program old.frame in
-    let own : all ≡ stands.body.lines = frame_lines-are program old.frame stands.body stands.runs in
+    let own : all ≡ stands.body.lines = lines_of-body program (code_of old.frame.code) stands.body stands.runs in
     let place = old.frame.place in
     let next = new.frame.place in
     let inside : next < length all =
@@ -305,7 +299,7 @@ StandsAtLine-act program old new line jump at goes stays further stands =
     record {
       body = stands.body;
       runs = ap (λ code. body_at program (code_of code)) stays.code ∙ stands.runs;
-      line = λ terminated. subst Ends own (ends_from all next inside at.ends);
+      line = λ terminated. subst Ends own (EndsInTerminator-from all next inside at.ends);
       count = suc stands.count;
       path = (
         label_at stands.body.lines place,

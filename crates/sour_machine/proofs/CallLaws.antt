@@ -14,10 +14,12 @@ use Rattle.sour_syntax.specs.Labels.{LabelsDiffer, label_at}
 use Rattle.sour_syntax.specs.Program.{ProgramView, IsProgram}
 use Rattle.sour_syntax.specs.Scopes.{following_labels, scope_after}
 use Rattle.sour_syntax.specs.Terminator.{IsTerminator, EndsInTerminator}
+use Rattle.sour_syntax.proofs.Everywhere.{AllByRecursion-append}
 use Rattle.sour_syntax.proofs.LabelPlaces.{EndsInTerminator-next}
 use Rattle.sour_semantics.specs.State.{State}
 use Rattle.sour_semantics.specs.Step.{body_at, body_of}
 use Rattle.sour_semantics.specs.Validity.{scope_of}
+use Rattle.sour_semantics.proofs.Places.{lines_of-body}
 use Rattle.sour_machine.specs.declared.activation.Waiting.{Waiting}
 use Rattle.sour_machine.specs.declared.moment.Moment.{Moment}
 use Rattle.sour_machine.specs.declared.report.End.{End}
@@ -27,7 +29,6 @@ use Rattle.sour_machine.specs.Frame.{code_of, frame_lines, frame_at, StandsAtLin
 use Rattle.sour_machine.specs.Instruction.{IsReady, ActsAs, IsCrossing, LeadsOut, EntersOr, CrossesTo, StandsCrossing}
 use Rattle.sour_machine.specs.Moment.{state_at, run_at, Stands}
 use Rattle.sour_machine.specs.Run.{GoesOn, is_call, top_calls, entered_by}
-use Rattle.sour_machine.proofs.FrameLaws.{All-append, frame_lines-are}
 use Rattle.sour_machine.proofs.Advances.{IsAt, IsAt-lines, IsLineAt-body, body_of-runs, step-state_at, top_calls-line}
 use Rattle.sour_machine.proofs.Instructions.{turns-crosses}
 use Rattle.sour_machine.proofs.RunLaws.{entered-none, entered-ended, entered-one, GoesOn-one, GoesOn-on}
@@ -38,7 +39,7 @@ pub StandsWaiting-caller : (program : ProgramView) (old : Moment) (line : Line) 
 StandsWaiting-caller program old line x callee es is at there stands =
     let all = frame_lines program old.frame in
     let place = old.frame.place in
-    let own : all ≡ stands.body.lines = frame_lines-are program old.frame stands.body stands.runs in
+    let own : all ≡ stands.body.lines = lines_of-body program (code_of old.frame.code) stands.body stands.runs in
     let lines = stands.body.lines in
     let Ends : Instr → Type 0 = λ instr. IsTerminator instr → ⊥ in
     let goes_on : Ends line.instr = subst Ends (sym is) (λ no. no) in
@@ -71,7 +72,7 @@ entered-below : (program : ProgramView) (x : VarId) (old new : Moment) (end : En
 entered-below program x old new Cut enters all caller =
     let Each : List Waiting → Type 0 = AllByRecursion (StandsWaiting program) in
     let waiting : Waiting = record { frame = record old.frame { place = old.frame.place + 1 }; result = x } in
-    subst Each (sym enters.below) (All-append (StandsWaiting program) old.below (waiting ∷ []) all (caller, tt {0}))
+    subst Each (sym enters.below) (AllByRecursion-append (StandsWaiting program) old.below (waiting ∷ []) all (caller, tt {0}))
 entered-below program x old new (Returned value) enters all caller = absurd enters
 entered-below program x old new Stopped enters all caller = absurd enters
 entered-below program x old new (Trapped trap) enters all caller =

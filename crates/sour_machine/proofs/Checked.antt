@@ -1,14 +1,12 @@
 -- What holds of the bodies of a checked program.
-use Rattle.std.proofs.Common.{◌≡◌, ℕ, zero, suc, ◌||◌, IsTrue, Bool, true, false, List, [], ◌∷◌, Option, None, Some, nat_eq, refl, subst}
-use Rattle.std.specs.Char.{is_ascii_alphabetic}
+use Rattle.std.proofs.Common.{◌≡◌, ℕ, zero, suc, List, [], ◌∷◌, Option, None, Some, refl, subst}
 use Rattle.std.specs.List.{AllByRecursion, slice_get}
-use Rattle.std.proofs.lemmas.Bool.{eqb-true}
 use Rattle.sour_syntax.specs.declared.program.Function.{Function}
 use Rattle.sour_syntax.specs.declared.program.Version.{Version}
 use Rattle.sour_syntax.specs.BodyView.{BodyView}
 use Rattle.sour_syntax.specs.Program.{ProgramView, IsPlainName, IsVersion, IsFunction, AreFunctions, IsProgram}
 use Rattle.sour_syntax.specs.Targets.{version_body, text_body, HasExits}
-use Rattle.sour_semantics.specs.Step.{body_at, is_anchor}
+use Rattle.sour_semantics.specs.Step.{body_at}
 use Rattle.sour_machine.specs.declared.frame.FrameCode.{FrameCode}
 use Rattle.sour_machine.specs.declared.frame.FrameCode.TheVariants.{Text}
 use Rattle.sour_machine.specs.Frame.{code_of}
@@ -17,19 +15,6 @@ use Rattle.sour_machine.specs.Frame.{code_of}
 pub record IsTextBody (functions : List Function) (body : BodyView) : Type 0 where
   pub labels : AllByRecursion (λ line. IsPlainName line.label) body.lines
   pub exits : HasExits functions [] body
-
--- a letter or `_` is not the byte with which an anchor's label begins
-anchor-byte : (byte : ℕ) (test : Bool) → nat_eq byte 64 ≡ test → IsTrue (is_ascii_alphabetic byte || nat_eq byte 95) → test ≡ false
-anchor-byte byte false is plain = refl
-anchor-byte byte true is plain =
-    let Plain : ℕ → Type 0 = λ byte. IsTrue (is_ascii_alphabetic byte || nat_eq byte 95) in
-    let none : IsTrue false = subst Plain (eqb-true byte 64 is) plain in
-    cc
-
--- a label that begins with a letter or `_` is no anchor's
-pub plain-anchor : (name : List ℕ) → IsPlainName name → is_anchor name ≡ false
-plain-anchor [] plain = absurd plain.begins
-plain-anchor (byte ∷ bytes) plain = anchor-byte byte (nat_eq byte 64) refl plain.begins
 
 -- what is found at a place among some functions of a program is the function that has some number
 function_at : (functions : List Function) (number : ℕ) (some : List Function) (place : ℕ) (function : Function) → AreFunctions functions number some → slice_get some place ≡ Some function

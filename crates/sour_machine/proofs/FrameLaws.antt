@@ -1,69 +1,33 @@
 -- What frames are in the language, and where they stand.
-use Rattle.std.proofs.Common.{◌≡◌, ℕ, zero, suc, ◌-◌, ◌≤◌, List, [], ◌∷◌, ◌++◌, true, false, Option, None, Some, length, map, replicate, drop, refl, sym, ap, ◌∙◌, subst, length-append, arith}
-use Rattle.std.specs.Prelude.{is_some, slice_get, slice_set}
+use Rattle.std.proofs.Common.{◌≡◌, ℕ, ◌-◌, ◌≤◌, List, [], ◌++◌, true, Option, None, Some, length, map, replicate, drop, refl, sym, ap, ◌∙◌, subst, length-append, arith}
+use Rattle.std.specs.Prelude.{slice_get, slice_set}
 use Rattle.std.specs.List.{AllByRecursion}
-use Rattle.std.proofs.lemmas.List.{map-append, length-map, length-replicate}
+use Rattle.std.proofs.lemmas.List.{length-map, length-replicate}
 use Rattle.sour_syntax.specs.BodyView.{BodyView}
 use Rattle.sour_syntax.specs.Labels.{label_at}
 use Rattle.sour_syntax.specs.Program.{ProgramView, HasMain}
-use Rattle.sour_syntax.specs.Scopes.{Scope, HasScope, first_scope}
+use Rattle.sour_syntax.specs.Scopes.{Scope, HasScope}
 use Rattle.sour_syntax.specs.Targets.{version_body, text_body}
 use Rattle.sour_syntax.specs.Terminator.{EndsInTerminator}
 use Rattle.sour_syntax.specs.declared.literal.FunId.{FunId}
 use Rattle.sour_syntax.specs.declared.literal.Value.{Value}
+use Rattle.sour_syntax.proofs.Everywhere.{AllByRecursion-weaker}
 use Rattle.sour_semantics.specs.State as state
 use Rattle.sour_semantics.specs.State.{Environment}
-use Rattle.sour_semantics.specs.Step.{body_or_empty, body_at, first_environment}
+use Rattle.sour_semantics.specs.Step.{body_at, first_environment}
 use Rattle.sour_semantics.specs.Validity.{scope_of}
+use Rattle.sour_semantics.proofs.Environments.{scope_of-first}
 use Rattle.sour_machine.specs.declared.activation.Activation.{Activation}
 use Rattle.sour_machine.specs.declared.activation.Waiting.{Waiting}
-use Rattle.sour_machine.specs.Frame.{code_of, frame_lines, StandsAtLine, StandsWaiting}
+use Rattle.sour_machine.specs.Frame.{code_of, StandsAtLine, StandsWaiting}
 use Rattle.sour_machine.specs.Instruction.{HasPlaces}
 use Rattle.sour_machine.proofs.Scopes.{scope_of-set, row-set}
 
--- what holds of each of some and of each of others
-pub All-append : {X : Type 0} (P : X → Type 0) (xs ys : List X) → AllByRecursion P xs → AllByRecursion P ys → AllByRecursion P (xs ++ ys)
-All-append P [] ys all others = others
-All-append P (x ∷ xs) ys all others = (all.0, All-append P xs ys all.1 others)
-
--- what holds of each of some with others behind them holds of each of the ones in front
-pub All-before : {X : Type 0} (P : X → Type 0) (xs ys : List X) → AllByRecursion P (xs ++ ys) → AllByRecursion P xs
-All-before P [] ys all = tt {0}
-All-before P (x ∷ xs) ys all = (all.0, All-before P xs ys all.1)
-
--- and of each of the others behind
-pub All-behind : {X : Type 0} (P : X → Type 0) (xs ys : List X) → AllByRecursion P (xs ++ ys) → AllByRecursion P ys
-All-behind P [] ys all = all
-All-behind P (x ∷ xs) ys all = All-behind P xs ys all.1
-
--- what follows from what holds of each element of a list holds of each of them too
-pub All-weaker : {X : Type 0} (P Q : X → Type 0) (xs : List X) → ((x : X) → P x → Q x) → AllByRecursion P xs → AllByRecursion Q xs
-All-weaker P Q [] weaker all = tt {0}
-All-weaker P Q (x ∷ xs) weaker all = (weaker x all.0, All-weaker P Q xs weaker all.1)
-
 -- the result for which a frame waits has its place
 pub HasPlaces-standing : (program : ProgramView) (below : List Waiting) → AllByRecursion (StandsWaiting program) below → AllByRecursion HasPlaces below
-HasPlaces-standing program below all = All-weaker (StandsWaiting program) HasPlaces below (λ waiting stands. stands.place) all
+HasPlaces-standing program below all = AllByRecursion-weaker (StandsWaiting program) HasPlaces (λ waiting stands. stands.place) below all
 
--- the scope of the values of parameters, and of variables that have none
-scope_of-values : (values : List Value) → scope_of (map Some values) ≡ replicate (length values) true
-scope_of-values [] = refl
-scope_of-values (value ∷ values) = ap (λ rest. true ∷ rest) (scope_of-values values)
-
--- where variables have no value, none of them is in scope
-scope_of-empty : (count : ℕ) → scope_of (replicate count None) ≡ replicate count false
-scope_of-empty zero = refl
-scope_of-empty (suc count) = ap (λ rest. false ∷ rest) (scope_of-empty count)
-
--- the first environment of a body, with a value for each parameter, has the scope of its first line
-pub scope_of-first : (body : BodyView) (values : List Value) → length values ≡ body.parameters → scope_of (first_environment body values) ≡ first_scope body
-scope_of-first body values taken =
-    map-append is_some (map Some values) (replicate (length body.variables - length values) None)
-    ∙ ap (λ front. front ++ scope_of (replicate (length body.variables - length values) None)) (scope_of-values values)
-    ∙ ap (λ behind. replicate (length values) true ++ behind) (scope_of-empty (length body.variables - length values))
-    ∙ ap (λ count. replicate count true ++ replicate (length body.variables - count) false) taken
-
--- and it has one place for each variable of the body, if there are no more values than that
+-- the first environment of a body has one place for each of its variables, if there are no more values than that
 pub length-first : (body : BodyView) (values : List Value) → length values ≤ length body.variables → length (first_environment body values) ≡ length body.variables
 length-first body values within =
     let front : length (map {B = Option Value} Some values) ≡ length values = length-map values Some in
@@ -113,10 +77,6 @@ StandsAtLine-main program has frame body count code first runs_body counts begun
     StandsAtLine-first program frame has.version.body [] runs first
     (begun ∙ ap (λ n. replicate (n - 0) None) (counts ∙ ap (λ (b : BodyView). length b.variables) is))
     (sym has.parameters) (omega (arith, has.parameters))
-
--- the lines that a frame runs are those of its body
-pub frame_lines-are : (program : ProgramView) (frame : Activation) (body : BodyView) → body_at program (code_of frame.code) ≡ Some body → frame_lines program frame ≡ body.lines
-frame_lines-are program frame body runs = ap (λ found. (body_or_empty found).lines) runs
 
 -- a frame that got the result for which it waited
 pub StandsAtLine-resumed : (program : ProgramView) (waiting : Waiting) (env : Environment) (value : Value) → env ≡ slice_set waiting.frame.env waiting.result.0 (Some value) → StandsWaiting program waiting

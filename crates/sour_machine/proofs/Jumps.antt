@@ -1,11 +1,11 @@
 -- Where a run goes on: the places of labels, and the lines that may follow one.
-use Rattle.std.proofs.Common.{◌≡◌, ℕ, zero, suc, ◌+◌, List, [], ◌∷◌, Some, length, get_or, Contains, map, refl, sym, ap, subst, arith}
-use Rattle.std.specs.List.{AllByRecursion, slice_get}
+use Rattle.std.proofs.Common.{◌≡◌, ℕ, zero, suc, ◌+◌, List, [], ◌∷◌, Contains, map, sym, ap, subst, arith}
+use Rattle.std.specs.List.{AllByRecursion}
 use Rattle.sour_syntax.specs.declared.instruction.Instr.{Instr}
 use Rattle.sour_syntax.specs.declared.instruction.Line.{Line}
 use Rattle.sour_syntax.specs.declared.jump.Jump.{Jump}
 use Rattle.sour_syntax.specs.declared.literal.Literal.{Literal}
-use Rattle.sour_syntax.specs.Jumps.{GoesTo, GoTo}
+use Rattle.sour_syntax.specs.Jumps.{GoesTo}
 use Rattle.sour_syntax.specs.Labels.{label_at, IsPlaceOf}
 use Rattle.sour_syntax.specs.Program.{ProgramView}
 use Rattle.sour_syntax.specs.Scopes.{following_labels}
@@ -15,24 +15,6 @@ use Rattle.sour_semantics.specs.Step.{goes_to}
 use Rattle.sour_machine.specs.declared.moment.Moment.{Moment}
 use Rattle.sour_machine.specs.Frame.{frame_lines}
 use Rattle.sour_machine.specs.Moment.{state_at}
-
--- there are as many jumps as lines
-pub length-GoTo : (all lines : List Line) (jumps : List Jump) → GoTo all lines jumps → length jumps ≡ length lines
-length-GoTo all [] [] go = refl
-length-GoTo all [] (jump ∷ jumps) go = absurd go
-length-GoTo all (line ∷ lines) [] go = absurd go
-length-GoTo all (line ∷ lines) (jump ∷ jumps) go = ap suc (length-GoTo all lines jumps go.1)
-
--- the jump of the line at a place
-pub GoesTo-at : (all lines : List Line) (jumps : List Jump) (place : ℕ) (line : Line) (default : Jump) → GoTo all lines jumps → slice_get lines place ≡ Some line
-    → GoesTo all line.instr (get_or jumps place default)
-GoesTo-at all [] jumps place line default go found = cc
-GoesTo-at all (first ∷ lines) [] place line default go found = absurd go
-GoesTo-at all (first ∷ lines) (jump ∷ jumps) zero line default go found =
-    let same : first ≡ line = cc in
-    let Goes : Line → Type 0 = λ line. GoesTo all line.instr jump in
-    subst Goes same go.0
-GoesTo-at all (first ∷ lines) (jump ∷ jumps) (suc place) line default go found = GoesTo-at all lines jumps place line default go.1 found
 
 -- a run that stands at the place of a label has gone to that label
 pub state_at_place : (program : ProgramView) (input : List Literal) (moment : Moment) (label : List ℕ) (place : ℕ) → IsPlaceOf (frame_lines program moment.frame) label place
@@ -60,8 +42,3 @@ pub All-Contains : {X : Type 0} (P : X → Type 0) (xs : List X) (x : X) → All
 All-Contains P [] x all (k, within, found) = absurd (omega arith)
 All-Contains P (first ∷ xs) x all (zero, within, found) = subst P found all.0
 All-Contains P (first ∷ xs) x all (suc k, within, found) = All-Contains P xs x all.1 (k, omega arith, found)
-
--- the only place of one
-pub Contains-one : (place next : ℕ) → Contains (place ∷ []) next → next ≡ place
-Contains-one place next (zero, within, found) = sym found
-Contains-one place next (suc k, within, found) = absurd (omega arith)

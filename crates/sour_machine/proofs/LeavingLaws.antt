@@ -1,9 +1,9 @@
 -- What leaving by an exit makes.
-use Rattle.std.proofs.Common.{◌≡◌, ℕ, zero, suc, ◌+◌, ◌<◌, List, [], ◌∷◌, ◌++◌, true, false, Option, None, Some, Result, Ok, Err, length, map, replicate, drop, get_or, set, refl, sym, ap, ◌∙◌, subst, append_assoc, drop-cons, add-one, arith}
+use Rattle.std.proofs.Common.{◌≡◌, ℕ, zero, suc, ◌+◌, ◌<◌, List, [], ◌∷◌, ◌++◌, Option, None, Some, Result, Ok, Err, length, map, replicate, drop, get_or, set, refl, sym, ap, ◌∙◌, subst, append_assoc, drop-cons, add-one, arith}
 use Rattle.std.specs.Prelude.{reverse, IfSome, OnOk}
 use Rattle.std.specs.List.{AllByRecursion}
 use Rattle.std.proofs.lemmas.Grind.{reverse_onto}
-use Rattle.std.proofs.lemmas.List.{map-append, length-map, length-set, length-replicate, reverse-append, reverse-reverse}
+use Rattle.std.proofs.lemmas.List.{map-append, length-map, length-replicate, reverse-append, reverse-reverse}
 use Rattle.sour_syntax.specs.declared.exit.Bind.{Bind}
 use Rattle.sour_syntax.specs.declared.exit.Code.{Code}
 use Rattle.sour_syntax.specs.declared.exit.Code.TheVariants.{Text, Made}
@@ -11,7 +11,6 @@ use Rattle.sour_syntax.specs.declared.exit.Exit.{Exit}
 use Rattle.sour_syntax.specs.declared.exit.Extra.{Extra}
 use Rattle.sour_syntax.specs.declared.exit.Target.{Target}
 use Rattle.sour_syntax.specs.declared.expression.Expr.{Expr}
-use Rattle.sour_syntax.specs.declared.instruction.Line.{Line}
 use Rattle.sour_syntax.specs.declared.literal.Literal.{Literal}
 use Rattle.sour_syntax.specs.declared.literal.Value.{Value}
 use Rattle.sour_syntax.specs.declared.literal.VarId.{VarId}
@@ -22,14 +21,15 @@ use Rattle.sour_syntax.specs.Labels.{label_at, IsPlaceOf}
 use Rattle.sour_syntax.specs.Program.{ProgramView}
 use Rattle.sour_syntax.specs.Scopes.{Scope, HasScope, scope_with}
 use Rattle.sour_syntax.specs.Targets.{named_body, scope_of_names, IsNamed, Lands}
-use Rattle.sour_syntax.specs.Terminator.{EndsInTerminator}
-use Rattle.sour_syntax.proofs.EachExpression.{all_joined}
+use Rattle.sour_syntax.proofs.Everywhere.{AllByRecursion-append}
 use Rattle.sour_syntax.proofs.Following.{label_at-IsPlaceOf, IsPlaceOf-within}
+use Rattle.sour_syntax.proofs.LabelPlaces.{EndsInTerminator-from}
 use Rattle.sour_semantics.specs.State as state
-use Rattle.sour_semantics.specs.State.{Environment, Heap, State, trapped}
+use Rattle.sour_semantics.specs.State.{Environment, Heap, State}
 use Rattle.sour_semantics.specs.Evaluation.{eval, eval_each, in_front}
 use Rattle.sour_semantics.specs.Step.{body_at, body_of, body_or_empty, exit_code, bound, landed, landed_frames, given, replaces_top, leaves, takes_turn}
 use Rattle.sour_semantics.specs.Validity.{scope_of}
+use Rattle.sour_semantics.proofs.Environments.{length-bound, scope_of-landed}
 use Rattle.sour_machine.specs.declared.activation.Activation.{Activation}
 use Rattle.sour_machine.specs.declared.activation.Waiting.{Waiting}
 use Rattle.sour_machine.specs.declared.frame.FrameCode.{FrameCode}
@@ -40,12 +40,6 @@ use Rattle.sour_machine.specs.Instruction.{LeavesBy}
 use Rattle.sour_machine.specs.Landing.{continuation, made_frames, StandsFor}
 use Rattle.sour_machine.specs.Leaving.{bound_row}
 use Rattle.sour_machine.specs.Moment.{state_at}
-use Rattle.sour_machine.proofs.Scopes.{scope_of-set}
-
--- behind all the elements of a list there is nothing left
-drop-all : {X : Type 0} (xs : List X) → drop (length xs) xs ≡ []
-drop-all [] = refl
-drop-all (x ∷ xs) = drop-all xs
 
 -- from a place of a list on stand the element at it and those from the next place on
 drop-at : {X : Type 0} (xs : List X) (place : ℕ) (other : X) → place < length xs → drop place xs ≡ get_or xs place other ∷ drop (place + 1) xs
@@ -116,60 +110,6 @@ length-eval_each environment heap (e ∷ es) values is =
 pub length-bound_values : (environment : Environment) (heap : Heap) (binds : List Bind) (values : List Value) → eval_each environment heap (bound_values binds) ≡ Ok values → length values ≡ length (bound_names binds)
 length-bound_values environment heap binds values is =
     length-eval_each environment heap (bound_values binds) values is ∙ length-map binds (λ (bind : Bind). bind.value) ∙ sym (length-map binds (λ (bind : Bind). bind.name))
-
--- a row in which some variables got values has as many places as before
-length-bound : (row : Environment) (names : List VarId) (values : List Value) → length (bound row names values) ≡ length row
-length-bound row [] values = refl
-length-bound row (x ∷ xs) [] = refl
-length-bound row (x ∷ xs) (value ∷ values) = length-bound (set row x.0 (Some value)) xs values ∙ length-set row x.0 (Some value)
-
--- it makes no difference which of two variables comes into scope first
-set-set : (scope : Scope) (i j : ℕ) → set (set scope i true) j true ≡ set (set scope j true) i true
-set-set [] i j = refl
-set-set (there ∷ scope) zero zero = refl
-set-set (there ∷ scope) zero (suc j) = refl
-set-set (there ∷ scope) (suc i) zero = refl
-set-set (there ∷ scope) (suc i) (suc j) = ap (λ rest. there ∷ rest) (set-set scope i j)
-
--- a scope with these variables, which come into it in turn
-abbrev marked : Scope → List VarId → Scope
-marked scope [] = scope
-marked scope (x ∷ xs) = marked (set scope x.0 true) xs
-
--- a variable may come into a scope before some others or after them
-marked-set : (scope : Scope) (x : VarId) (xs : List VarId) → marked (set scope x.0 true) xs ≡ set (marked scope xs) x.0 true
-marked-set scope x [] = refl
-marked-set scope x (y ∷ ys) = ap (λ scope. marked scope ys) (set-set scope x.0 y.0) ∙ marked-set (set scope y.0 true) x ys
-
--- the scope in which some variables are is the one without any into which they come in turn
-scope_of_names-marked : (count : ℕ) (names : List VarId) → scope_of_names count names ≡ marked (replicate count false) names
-scope_of_names-marked count [] = refl
-scope_of_names-marked count (x ∷ xs) = ap (λ scope. set scope x.0 true) (scope_of_names-marked count xs) ∙ sym (marked-set (replicate count false) x xs)
-
--- where some variables get as many values in a row, they come into its scope in turn
-scope_of-bound : (row : Environment) (names : List VarId) (values : List Value) → length values ≡ length names → scope_of (bound row names values) ≡ marked (scope_of row) names
-scope_of-bound row [] values counts = refl
-scope_of-bound row (x ∷ xs) [] counts = absurd (omega arith)
-scope_of-bound row (x ∷ xs) (value ∷ values) counts =
-    scope_of-bound (set row x.0 (Some value)) xs values (omega arith)
-    ∙ ap (λ scope. marked scope xs) (scope_of-set row (set row x.0 (Some value)) x.0 (Some value) refl)
-
--- a row that has no values has a scope in which there is no variable
-scope_of-none : (count : ℕ) → scope_of (replicate count None) ≡ replicate count false
-scope_of-none zero = refl
-scope_of-none (suc count) = ap (λ rest. false ∷ rest) (scope_of-none count)
-
--- the scope of a row of the variables that a map names
-scope_of-landed : (count : ℕ) (names : List VarId) (values : List Value) → length values ≡ length names → scope_of (bound (replicate count None) names values) ≡ scope_of_names count names
-scope_of-landed count names values counts =
-    scope_of-bound (replicate count None) names values counts ∙ ap (λ scope. marked scope names) (scope_of-none count) ∙ sym (scope_of_names-marked count names)
-
--- from a place of lines that end in a terminator on they end in one
-EndsInTerminator-from : (lines : List Line) (place : ℕ) → place < length lines → EndsInTerminator lines → EndsInTerminator (drop place lines)
-EndsInTerminator-from [] place within end = absurd end
-EndsInTerminator-from (line ∷ lines) zero within end = end
-EndsInTerminator-from (line ∷ []) (suc place) within end = absurd (omega arith)
-EndsInTerminator-from (line ∷ next ∷ lines) (suc place) within end = EndsInTerminator-from (next ∷ lines) place (omega arith) end
 
 -- the body of the code that an exit of the text names
 pub body_at-exit : (program : ProgramView) (code : state.FrameCode) (target : Code) (to : state.FrameCode) (body : BodyView) → exit_code code target ≡ to → named_body program.functions [] target ≡ Some body
@@ -336,13 +276,13 @@ All-reverse : {X : Type 0} (P : X → Type 0) (xs : List X) → AllByRecursion P
 All-reverse P [] all = tt {0}
 All-reverse {X = X} P (x ∷ xs) all =
     let Each : List X → Type 0 = AllByRecursion P in
-    subst Each (sym (reverse_onto xs x [])) (all_joined P (reverse xs) (x ∷ []) (All-reverse P xs all.1) (all.0, tt {0}))
+    subst Each (sym (reverse_onto xs x [])) (AllByRecursion-append P (reverse xs) (x ∷ []) (All-reverse P xs all.1) (all.0, tt {0}))
 
 -- in that moment a frame was left by an exit, if the frames that took its place stand at their lines
 pub LeavesBy-left : (program : ProgramView) (old : Moment) (made : Landed) → StandsAtLine program made.top None → AllByRecursion (StandsWaiting program) made.extras → LeavesBy program old (left_by old made)
 LeavesBy-left program old made top extras = record {
   top = λ going. top;
-  below = λ all. all_joined (StandsWaiting program) old.below (reverse made.extras) all (All-reverse (StandsWaiting program) made.extras extras);
+  below = λ all. AllByRecursion-append (StandsWaiting program) old.below (reverse made.extras) all (All-reverse (StandsWaiting program) made.extras extras);
   calls = refl;
 }
 

@@ -3,6 +3,8 @@ use Rattle.std.proofs.Common.{◌≡◌, ℕ, ◌+◌, ◌<◌, Bool, true, fals
 use Rattle.std.specs.Prelude.{codes}
 use Rattle.std.specs.Str.{bytes_eq}
 use Rattle.std.proofs.lemmas.List.{take_more, map-append}
+use Rattle.sour_syntax.proofs.Everywhere.{AllByRecursion-append}
+use Rattle.sour_syntax.proofs.LabelPlaces.{tested}
 use Rattle.sour_reader.specs.declared.raw.RawExpr.{RawExpr}
 use Rattle.sour_reader.specs.declared.raw.RawExpr.TheVariants.{Plain, Cell, Length, Not, Binary}
 use Rattle.sour_reader.specs.declared.raw.RawBind.{RawBind}
@@ -10,8 +12,8 @@ use Rattle.sour_reader.specs.Operator.{op_spelling}
 use Rattle.sour_reader.specs.Expression.{SpellsExpr}
 use Rattle.sour_reader.specs.Exit.{SpellsBind, SpellsBinds}
 use Rattle.sour_reader.specs.Parts.{inside_behind, LeadsTo, IsPaired}
-use Rattle.sour_reader.proofs.Operands.{apart, tested}
-use Rattle.sour_reader.proofs.Tokens.{IsPlain, ArePlain, plain_from_test, plain_name, plain_simple, plain_operator, all_append}
+use Rattle.sour_reader.proofs.Operands.{apart}
+use Rattle.sour_reader.proofs.Tokens.{IsPlain, ArePlain, plain_from_test, plain_name, plain_simple, plain_operator}
 
 -- a token that is neither bracket opens and closes nothing
 pub neither_inside : (inside : Bool) (token : List ℕ) → ¬ (token ≡ codes "[") → ¬ (token ≡ codes "]") → inside_behind inside token ≡ inside
@@ -47,7 +49,7 @@ paired_expr (Not a) tokens (operand, is, spelled) =
     subst IsPaired (sym is) (plain_leads false (codes "!" ∷ operand) (plain_from_test (codes "!") refl, plain_simple a operand spelled))
 paired_expr (Binary op a b) tokens (left, right, is, first, second) =
     subst IsPaired (sym is)
-    (plain_leads false (left ++ op_spelling op ∷ right) (all_append IsPlain left (op_spelling op ∷ right) (plain_simple a left first) (plain_operator op, plain_simple b right second)))
+    (plain_leads false (left ++ op_spelling op ∷ right) (AllByRecursion-append IsPlain left (op_spelling op ∷ right) (plain_simple a left first) (plain_operator op, plain_simple b right second)))
 
 -- so do those of a name with its value
 paired_bind : (bind : RawBind) (tokens : List (List ℕ)) → SpellsBind bind tokens → IsPaired tokens

@@ -2,10 +2,10 @@
 use Rattle.std.proofs.Common.{◌≡◌, ◌↔◌, add-one, ℕ, zero, suc, ◌+◌, ◌<◌, ◌≤◌, length, map, take, drop, get_or, arith, true, false, List, [], ◌∷◌, ◌++◌, Option, Some, None, refl, sym, ap, ◌∙◌, subst}
 use Rattle.std.specs.Prelude.{codes, ◌==◌}
 use Rattle.std.proofs.lemmas.Bool.Decides.{nat_tests}
+use Rattle.sour_syntax.proofs.Everywhere.{AllByRecursion-append}
 use Rattle.sour_reader.specs.Expression.{SpellsListed}
 use Rattle.sour_reader.specs.Parts.{Lacks, SpellsSome}
 use Rattle.sour_reader.proofs.Found.{Finds, finds_none, finds_some, finds_as, none_found, found_holds, found_only}
-use Rattle.sour_reader.proofs.Tokens.{all_append}
 use Rattle.sour_reader.proofs.ValueLaws.{take_all}
 use Rattle.sour_reader.proofs.Prefixes.{ReadsOn, reads_on_more, reads_on_end}
 
@@ -31,7 +31,7 @@ pub lacks_listed : {X : Type 0} (S : X → List (List ℕ) → Type 0) (own : Li
 lacks_listed S own each other [] tokens is = subst (Lacks own) (sym is) tt
 lacks_listed S own each other (x ∷ []) tokens spelled = each x tokens spelled
 lacks_listed S own each other (x ∷ y ∷ xs) tokens (first, rest, is, spelled, more) =
-    subst (Lacks own) (sym is) (all_append (λ token. ¬ (token ≡ own)) first (codes "," ∷ rest) (each x first spelled) (other, lacks_listed S own each other (y ∷ xs) rest more))
+    subst (Lacks own) (sym is) (AllByRecursion-append (λ token. ¬ (token ≡ own)) first (codes "," ∷ rest) (each x first spelled) (other, lacks_listed S own each other (y ∷ xs) rest more))
 
 -- in what S says is spelled there are no commas
 pub record HasNoCommas (X : Type 0) (S : X → List (List ℕ) → Type 0) : Type 0 where

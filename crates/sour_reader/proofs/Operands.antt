@@ -1,5 +1,5 @@
 -- Operands: how many tokens they have, and what they are.
-use Rattle.std.proofs.Common.{◌≡◌, ◌≢◌, ◌<◌, length-append, ℕ, Bool, true, false, cond, List, [], ◌∷◌, ◌++◌, Option, Some, None, length, refl, sym, ap, ◌∙◌, subst, arith, rules}
+use Rattle.std.proofs.Common.{◌≡◌, ◌≢◌, ◌<◌, length-append, ℕ, true, false, cond, List, [], ◌∷◌, ◌++◌, Option, Some, None, length, refl, sym, ap, ◌∙◌, subst, arith, rules}
 use Rattle.std.specs.Prelude.{codes, IsTrue}
 use Rattle.std.specs.Option.{option_map}
 use Rattle.std.specs.Str.{bytes_eq}
@@ -8,6 +8,7 @@ use Rattle.std.proofs.lemmas.Bool.Decides.{nat_tests}
 use Rattle.std.proofs.lemmas.Slice.Eq.{bytes_eq-Decides}
 use Rattle.sour_tokens.specs.Byte.{begins_word}
 use Rattle.sour_tokens.specs.Token.{IsDigits, IsWord}
+use Rattle.sour_syntax.proofs.LabelPlaces.{tested}
 use Rattle.sour_reader.specs.declared.raw.RawLiteral.{RawLiteral}
 use Rattle.sour_reader.specs.declared.raw.RawLiteral.TheVariants.{Number, Truth, Nil, Function}
 use Rattle.sour_reader.specs.declared.raw.RawSimple.{RawSimple}
@@ -19,11 +20,6 @@ use Rattle.sour_reader.specs.Operand.{operand_length}
 use Rattle.sour_reader.specs.Parts.{SplitsSo}
 use Rattle.sour_reader.proofs.Lists.{same_parts}
 use Rattle.sour_reader.proofs.Found.{Finds, finds_none, finds_some, finds_made, none_found, found_holds, found_only}
-
--- a test that isn't passed
-pub tested : (a b : List ℕ) (test : Bool) → bytes_eq a b ≡ test → a ≢ b → test ≡ false
-tested a b true is other = absurd (other ((bytes_eq-Decides a b).0 is))
-tested a b false is other = refl
 
 -- bytes that are compared as different are different
 pub apart : (a b : List ℕ) → a ≡ b → bytes_eq a b ≡ false → ⊥

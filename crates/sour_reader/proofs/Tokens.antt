@@ -1,5 +1,5 @@
 -- What holds of the tokens of operands and expressions.
-use Rattle.std.proofs.Common.{◌≡◌, ℕ, Bool, true, false, List, [], ◌∷◌, ◌++◌, refl, sym, ap, ◌∙◌, subst}
+use Rattle.std.proofs.Common.{◌≡◌, ℕ, Bool, true, false, List, [], ◌∷◌, refl, sym, ap, ◌∙◌, subst}
 use Rattle.std.specs.Prelude.{codes}
 use Rattle.std.specs.List.{AllByRecursion, list_any}
 use Rattle.std.specs.Str.{bytes_eq}
@@ -7,6 +7,7 @@ use Rattle.std.proofs.lemmas.Bool.{false≢true}
 use Rattle.sour_tokens.specs.Token.{IsDigits, IsWord}
 use Rattle.sour_syntax.specs.declared.expression.Op.{Op}
 use Rattle.sour_syntax.specs.declared.expression.Op.TheVariants.{Add, Sub, Mul, Div, Rem, Eq, Ne, Lt, Le, Gt, Ge, And, Or}
+use Rattle.sour_syntax.proofs.Everywhere.{AllByRecursion-weaker, AllByRecursion-append}
 use Rattle.sour_reader.specs.declared.raw.RawLiteral.{RawLiteral}
 use Rattle.sour_reader.specs.declared.raw.RawLiteral.TheVariants.{Number, Truth, Nil, Function}
 use Rattle.sour_reader.specs.declared.raw.RawSimple.{RawSimple}
@@ -106,32 +107,22 @@ plain_operator op = plain_from_test (op_spelling op) (by_case op)
     by_case And = refl
     by_case Or = refl
 
--- what holds of each of two lists holds of both
-pub all_append : {X : Type 0} (P : X → Type 0) (front back : List X) → AllByRecursion P front → AllByRecursion P back → AllByRecursion P (front ++ back)
-all_append P [] back first second = second
-all_append P (x ∷ front) back first second = (first.0, all_append P front back first.1 second)
-
--- what follows for each
-all_weaker : {X : Type 0} (P Q : X → Type 0) → ((x : X) → P x → Q x) → (xs : List X) → AllByRecursion P xs → AllByRecursion Q xs
-all_weaker P Q follows [] all = tt
-all_weaker P Q follows (x ∷ xs) all = (follows x all.0, all_weaker P Q follows xs all.1)
-
 -- what holds of plain tokens and of brackets holds of each token of an expression
 all_of_expr : (P : List ℕ → Type 0) → ((token : List ℕ) → IsPlain token → P token) → P (codes "[") → P (codes "]") → (e : RawExpr) (tokens : List (List ℕ)) → SpellsExpr e tokens → AllByRecursion P tokens
-all_of_expr P plain opening closing (Plain a) tokens spelled = all_weaker IsPlain P plain tokens (plain_simple a tokens spelled)
+all_of_expr P plain opening closing (Plain a) tokens spelled = AllByRecursion-weaker IsPlain P plain tokens (plain_simple a tokens spelled)
 all_of_expr P plain opening closing (Cell x index) tokens (place, is, named, spelled) =
     subst (AllByRecursion P) (sym is) (
       plain x (plain_name x named),
-      (opening, all_append P place (codes "]" ∷ []) (all_weaker IsPlain P plain place (plain_simple index place spelled)) (closing, tt)),
+      (opening, AllByRecursion-append P place (codes "]" ∷ []) (AllByRecursion-weaker IsPlain P plain place (plain_simple index place spelled)) (closing, tt)),
     )
 all_of_expr P plain opening closing (Length a) tokens (operand, is, spelled) =
-    subst (AllByRecursion P) (sym is) (plain (codes "length") (plain_from_test (codes "length") refl), all_weaker IsPlain P plain operand (plain_simple a operand spelled))
+    subst (AllByRecursion P) (sym is) (plain (codes "length") (plain_from_test (codes "length") refl), AllByRecursion-weaker IsPlain P plain operand (plain_simple a operand spelled))
 all_of_expr P plain opening closing (Not a) tokens (operand, is, spelled) =
-    subst (AllByRecursion P) (sym is) (plain (codes "!") (plain_from_test (codes "!") refl), all_weaker IsPlain P plain operand (plain_simple a operand spelled))
+    subst (AllByRecursion P) (sym is) (plain (codes "!") (plain_from_test (codes "!") refl), AllByRecursion-weaker IsPlain P plain operand (plain_simple a operand spelled))
 all_of_expr P plain opening closing (Binary op a b) tokens (left, right, is, first, second) =
     subst (AllByRecursion P) (sym is)
-    (all_append P left (op_spelling op ∷ right) (all_weaker IsPlain P plain left (plain_simple a left first))
-    (plain (op_spelling op) (plain_operator op), all_weaker IsPlain P plain right (plain_simple b right second)))
+    (AllByRecursion-append P left (op_spelling op ∷ right) (AllByRecursion-weaker IsPlain P plain left (plain_simple a left first))
+    (plain (op_spelling op) (plain_operator op), AllByRecursion-weaker IsPlain P plain right (plain_simple b right second)))
 
 -- an expression has no comma
 pub no_comma_expr : (e : RawExpr) (tokens : List (List ℕ)) → SpellsExpr e tokens → Lacks (codes ",") tokens

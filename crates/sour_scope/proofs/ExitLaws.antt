@@ -1,5 +1,5 @@
 -- The exits of a body, place by place, and of functions.
-use Rattle.std.proofs.Common.{◌≡◌, ◌↔◌, ◌+◌, ◌<◌, ◌≤◌, ℕ, suc, Bool, IsTrue, true, false, cond, List, [], ◌∷◌, Option, None, Some, is_some, IfSome, IfNone, length, map, drop, slice_get, refl, sym, ap, ◌∙◌, subst, arith}
+use Rattle.std.proofs.Common.{◌≡◌, ◌↔◌, ◌+◌, ◌<◌, ◌≤◌, ℕ, suc, Bool, IsTrue, true, false, List, [], ◌∷◌, Option, None, Some, is_some, IfSome, IfNone, length, map, drop, slice_get, refl, sym, ap, ◌∙◌, subst, arith}
 use Rattle.std.proofs.lemmas.Option.{slice_get_within}
 use Rattle.std.specs.List.{AllByRecursion}
 use Rattle.std.specs.Str.{bytes_eq}
@@ -17,8 +17,9 @@ use Rattle.sour_syntax.specs.Exits.{Continuation, top_continuation, extra_contin
 use Rattle.sour_syntax.specs.Labels.{LabelsDiffer, from_label, label_at}
 use Rattle.sour_syntax.specs.Scopes.{Scope, HasScope, HasInScope, IsUnreached}
 use Rattle.sour_syntax.specs.Targets.{IsNamed, Lands, HasExits}
-use Rattle.sour_syntax.proofs.Everywhere.{all_at}
+use Rattle.sour_syntax.proofs.Everywhere.{AllByRecursion-found}
 use Rattle.sour_syntax.proofs.LabelPlaces.{from_label-first_label-drop, drop-slice_get}
+use Rattle.sour_syntax.proofs.NoExits.{taken}
 use Rattle.sour_scope.specs.Checked.{HaveExits}
 use Rattle.sour_scope.specs.Landings.{IsRight}
 
@@ -42,18 +43,13 @@ pub record StandsAt (lines : List Line) (label : List ℕ) (line : Line) : Type 
 stands_later : (first : Line) (lines : List Line) (label : List ℕ) (line : Line) → StandsAt lines label line → StandsAt (first ∷ lines) label line
 stands_later first lines label line at = record { place = suc at.place; there = at.there; labelled = at.labelled }
 
--- the line that is taken, the first or one of the others
-stands_first : (test : Bool) (first : Line) (lines found : List Line) (label : List ℕ) (line : Line) (rest : List Line) → bytes_eq first.label label ≡ test
-    → (found ≡ line ∷ rest → StandsAt lines label line) → cond test (first ∷ lines) found ≡ line ∷ rest → StandsAt (first ∷ lines) label line
-stands_first true first lines found label line rest tested later stands =
-    let same : first ≡ line = cc in record { place = 0; there = ap Some same; labelled = (bytes_eq-Decides first.label label).0 tested }
-stands_first false first lines found label line rest tested later stands = stands_later first lines label line (later stands)
-
 -- a line that is found by its label has a place, at which that label stands
 stands_at : (lines : List Line) (label : List ℕ) (line : Line) (rest : List Line) → from_label label lines ≡ line ∷ rest → StandsAt lines label line
 stands_at [] label line rest stands = cc
 stands_at (first ∷ lines) label line rest stands =
-    stands_first (bytes_eq first.label label) first lines (from_label label lines) label line rest refl (stands_at lines label line rest) stands
+    taken (StandsAt (first ∷ lines) label line) (bytes_eq first.label label) first lines (from_label label lines) line rest
+    (λ is same others. record { place = 0; there = ap Some same; labelled = (bytes_eq-Decides first.label label).0 is })
+    (λ behind. stands_later first lines label line (stands_at lines label line rest behind)) stands
 
 -- what holds at each place holds of each
 all_of_places : {X : Type 0} (P : X → Type 0) (xs : List X) → ((place : ℕ) (x : X) → slice_get xs place ≡ Some x → P x) → AllByRecursion P xs
@@ -122,7 +118,7 @@ module _ (functions : List Function) (body : BodyView) where
   -- and those of each line are, where the body's are
   pub right_at : (place : ℕ) (line : Line) → LabelsDiffer body.lines → slice_get body.lines place ≡ Some line → HasExits functions [] body → IsRightAt functions body place line
   right_at place line differ there exits = record {
-    named = all_at (λ (other : Line). AllByRecursion (IsNamed functions []) (continuations_of other.instr)) body.lines place line there exits.named;
+    named = AllByRecursion-found (λ (other : Line). AllByRecursion (IsNamed functions []) (continuations_of other.instr)) body.lines place line exits.named there;
     land = λ count scope path.
         let within = slice_get_within body.lines place line there in
         exits.land count (label_at body.lines place) scope line (drop (place + 1) body.lines) path

@@ -1,7 +1,6 @@
 -- Where the frames that exits make land.
-use Rattle.std.proofs.Common.{◌≡◌, ◌↔◌, ◌<◌, ◌≤◌, ℕ, Bool, IsTrue, true, false, not, List, [], Option, None, Some, IfSome, Contains, length, refl, sym, ap, ◌∙◌, subst}
+use Rattle.std.proofs.Common.{◌≡◌, ◌↔◌, ◌<◌, ◌≤◌, ℕ, Bool, IsTrue, true, false, not, List, [], Option, None, Some, IfSome, length, refl, sym, ap, ◌∙◌, subst}
 use Rattle.std.proofs.lemmas.List.{length-set}
-use Rattle.std.proofs.lemmas.Option.{slice_get_within, get_or_from_slice_get}
 use Rattle.std.specs.List.{AllByRecursion}
 use Rattle.sour_syntax.specs.declared.program.Function.{Function}
 use Rattle.sour_syntax.specs.BodyView.{BodyView}
@@ -10,6 +9,7 @@ use Rattle.sour_syntax.specs.Exits.{Continuation, bound_names}
 use Rattle.sour_syntax.specs.Labels.{labels_of, label_at, IsPlaceOf}
 use Rattle.sour_syntax.specs.Scopes.{Scope, members, scope_with, HasScope, HasScopes, HasInScope}
 use Rattle.sour_syntax.specs.Targets.{IsNamed, Lands, named_body, scope_of_names}
+use Rattle.sour_syntax.proofs.Everywhere.{Contains-slice_get}
 use Rattle.sour_syntax.proofs.ScopeLists.{length-HasScope}
 use Rattle.sour_syntax.proofs.Following.{label_at-IsPlaceOf}
 use Rattle.sour_scope.specs.Landings.{AreNames, IsFree, LandsAt, IsRight}
@@ -59,12 +59,6 @@ module _ (functions : List Function) (continuation : Continuation) (body : BodyV
   in_lands : LandsIn continuation body → Lands functions [] continuation
   in_lands lands = record { body = body; found = found; count = lands.count; path = lands.path; free = lands.free }
 
--- a label stands where it has a place
-placed : (body : BodyView) (label : List ℕ) (place : ℕ) → IsPlaceOf body.lines label place → Contains (labels_of body.lines) label
-placed body label place at =
-    let labels = labels_of body.lines in
-    (place, slice_get_within labels place label at, get_or_from_slice_get labels place label label at)
-
 -- a continuation that names what is there, by a place of its label and a count of the variables
 module _ (functions : List Function) (continuation : Continuation) (body : BodyView) (place count : ℕ) (found : Some body ≡ named_body functions [] continuation.target.code)
     (at : IsPlaceOf body.lines continuation.target.label place) (counted : count ≡ length body.variables) (below : IfSome continuation.waits (λ x. x < count))
@@ -74,7 +68,7 @@ module _ (functions : List Function) (continuation : Continuation) (body : BodyV
   is_named = record {
     body = body;
     found = sym found;
-    label = placed body continuation.target.label place at;
+    label = Contains-slice_get (labels_of body.lines) place continuation.target.label at;
     names = subst (λ n. AllByRecursion (λ (x : VarId). x.0 < n) (bound_names continuation.binds)) counted names.0;
     differ = names.1;
     result = subst (λ n. IfSome continuation.waits (λ x. x < n)) counted below;

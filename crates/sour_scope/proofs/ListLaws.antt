@@ -1,18 +1,13 @@
 -- What holds of the elements of a list, and of its last one.
-use Rattle.std.proofs.Common.{◌≡◌, ◌+◌, ◌<◌, ◌≤◌, ℕ, List, [], ◌∷◌, ◌++◌, Some, length, map, get_or, take, refl, sym, subst}
+use Rattle.std.proofs.Common.{◌≡◌, ◌+◌, ◌<◌, ◌≤◌, ℕ, List, [], ◌∷◌, length, map, get_or, take, refl, sym, subst}
 use Rattle.std.proofs.lemmas.List.{take_all}
-use Rattle.std.specs.List.{AllByRecursion, slice_get}
+use Rattle.std.specs.List.{AllByRecursion}
 use Rattle.sour_syntax.proofs.Everywhere.{all_push, take_next}
 
 -- what is made of some elements isn't empty
 pub map_some : {A B : Type 0} (f : A → B) (xs : List A) → ¬ (xs ≡ []) → ¬ (map f xs ≡ [])
 map_some f [] some is = some refl
 map_some f (x ∷ xs) some is = absurd (cc)
-
--- the element behind the others
-pub slice_get-last : {X : Type 0} (xs : List X) (x : X) → slice_get (xs ++ x ∷ []) (length xs) ≡ Some x
-slice_get-last [] x = refl
-slice_get-last (y ∷ xs) x = slice_get-last xs x
 
 -- what holds of the first elements and of the next one
 pub all_next : {X : Type 0} (P : X → Type 0) (xs : List X) (place : ℕ) (x : X) → place < length xs → x ≡ get_or xs place x

@@ -6,7 +6,7 @@ use Rattle.sour_syntax.specs.declared.exit.Bind.{Bind}
 use Rattle.sour_syntax.specs.declared.exit.Extra.{Extra}
 use Rattle.sour_syntax.specs.Exits.{bound_values, extras_values}
 use Rattle.sour_syntax.specs.Literals.{IsLiteral, literals_of_expr, literals_of_each}
-use Rattle.sour_syntax.proofs.EachExpression.{all_joined, all_first, all_second}
+use Rattle.sour_syntax.proofs.Everywhere.{AllByRecursion-append, AllByRecursion-parts}
 
 module _ (functions : ℕ) where
   -- each literal of this expression is one of a program with so many functions
@@ -19,28 +19,27 @@ module _ (functions : ℕ) where
 
   pub known_joined : (es : List Expr) → AllByRecursion OfKnown es → OfEach es
   known_joined [] all = tt
-  known_joined (e ∷ es) all = all_joined (IsLiteral functions) (literals_of_expr e) (literals_of_each es) all.0 (known_joined es all.1)
+  known_joined (e ∷ es) all = AllByRecursion-append (IsLiteral functions) (literals_of_expr e) (literals_of_each es) all.0 (known_joined es all.1)
 
   pub known_split : (es : List Expr) → OfEach es → AllByRecursion OfKnown es
   known_split [] all = tt
-  known_split (e ∷ es) all = (
-    all_first (IsLiteral functions) (literals_of_expr e) (literals_of_each es) all,
-    known_split es (all_second (IsLiteral functions) (literals_of_expr e) (literals_of_each es) all),
-  )
+  known_split (e ∷ es) all =
+      let parts = AllByRecursion-parts (IsLiteral functions) (literals_of_expr e) (literals_of_each es) all in (parts.0, known_split es parts.1)
 
   -- what holds of two lists of expressions holds of both as one
   values_joined : (es others : List Expr) → OfEach es → OfEach others → OfEach (es ++ others)
   values_joined [] others all more = more
   values_joined (e ∷ es) others all more =
-      all_joined (IsLiteral functions) (literals_of_expr e) (literals_of_each (es ++ others)) (all_first (IsLiteral functions) (literals_of_expr e) (literals_of_each es) all)
-      (values_joined es others (all_second (IsLiteral functions) (literals_of_expr e) (literals_of_each es) all) more)
+      let parts = AllByRecursion-parts (IsLiteral functions) (literals_of_expr e) (literals_of_each es) all in
+      AllByRecursion-append (IsLiteral functions) (literals_of_expr e) (literals_of_each (es ++ others)) parts.0 (values_joined es others parts.1 more)
 
   -- and the other way round
   values_split : (es others : List Expr) → OfEach (es ++ others) → OfEach es × OfEach others
   values_split [] others all = (tt, all)
   values_split (e ∷ es) others all =
-      let rest : OfEach es × OfEach others = values_split es others (all_second (IsLiteral functions) (literals_of_expr e) (literals_of_each (es ++ others)) all) in
-      (all_joined (IsLiteral functions) (literals_of_expr e) (literals_of_each es) (all_first (IsLiteral functions) (literals_of_expr e) (literals_of_each (es ++ others)) all) rest.0, rest.1)
+      let parts = AllByRecursion-parts (IsLiteral functions) (literals_of_expr e) (literals_of_each (es ++ others)) all in
+      let rest : OfEach es × OfEach others = values_split es others parts.1 in
+      (AllByRecursion-append (IsLiteral functions) (literals_of_expr e) (literals_of_each es) parts.0 rest.0, rest.1)
 
   -- each literal of the value that is bound is one
   abbrev pub OfBind : Bind → Type 0
@@ -48,14 +47,13 @@ module _ (functions : ℕ) where
 
   pub binds_joined : (binds : List Bind) → AllByRecursion OfBind binds → OfEach (bound_values binds)
   binds_joined [] all = tt
-  binds_joined (bind ∷ binds) all = all_joined (IsLiteral functions) (literals_of_expr bind.value) (literals_of_each (bound_values binds)) all.0 (binds_joined binds all.1)
+  binds_joined (bind ∷ binds) all = AllByRecursion-append (IsLiteral functions) (literals_of_expr bind.value) (literals_of_each (bound_values binds)) all.0 (binds_joined binds all.1)
 
   pub binds_split : (binds : List Bind) → OfEach (bound_values binds) → AllByRecursion OfBind binds
   binds_split [] all = tt
-  binds_split (bind ∷ binds) all = (
-    all_first (IsLiteral functions) (literals_of_expr bind.value) (literals_of_each (bound_values binds)) all,
-    binds_split binds (all_second (IsLiteral functions) (literals_of_expr bind.value) (literals_of_each (bound_values binds)) all),
-  )
+  binds_split (bind ∷ binds) all =
+      let parts = AllByRecursion-parts (IsLiteral functions) (literals_of_expr bind.value) (literals_of_each (bound_values binds)) all in
+      (parts.0, binds_split binds parts.1)
 
   -- each literal of the values in the map of a further frame is one
   abbrev pub OfExtra : Extra → Type 0
@@ -84,10 +82,10 @@ module _ (functions : ℕ) where
   pub joined_then : (es others : List Expr) (first second : Bool) → first ≡ true → (IsTrue first ↔ OfEach es) → (IsTrue second ↔ OfEach others)
       → IsTrue second ↔ AllByRecursion (IsLiteral functions) (literals_of_each es ++ literals_of_each others)
   joined_then es others first second held one other = (
-    (λ more. all_joined (IsLiteral functions) (literals_of_each es) (literals_of_each others) (one.0 held) (other.0 more)),
-    λ all. other.1 (all_second (IsLiteral functions) (literals_of_each es) (literals_of_each others) all),
+    (λ more. AllByRecursion-append (IsLiteral functions) (literals_of_each es) (literals_of_each others) (one.0 held) (other.0 more)),
+    λ all. other.1 (AllByRecursion-parts (IsLiteral functions) (literals_of_each es) (literals_of_each others) all).1,
   )
 
   pub joined_else : (es others : List Expr) (first : Bool) → first ≡ false → (IsTrue first ↔ OfEach es)
       → IsTrue first ↔ AllByRecursion (IsLiteral functions) (literals_of_each es ++ literals_of_each others)
-  joined_else es others first failed one = ((λ held. absurd (cc)), λ all. one.1 (all_first (IsLiteral functions) (literals_of_each es) (literals_of_each others) all))
+  joined_else es others first failed one = ((λ held. absurd (cc)), λ all. one.1 (AllByRecursion-parts (IsLiteral functions) (literals_of_each es) (literals_of_each others) all).0)

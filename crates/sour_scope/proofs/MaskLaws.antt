@@ -1,37 +1,21 @@
 -- The variables that a map names, as marks.
 use Rattle.std.proofs.Common.{◌≡◌, ◌≢◌, ◌+◌, ◌<◌, ◌≤◌, ℕ, zero, suc, Bool, true, false, List, [], ◌∷◌, ◌++◌, length, get_or, take, drop, replicate, slice_set, refl, sym, ap, ◌∙◌, subst, arith}
-use Rattle.std.proofs.lemmas.List.{length-set, length-replicate, map-append}
+use Rattle.std.proofs.lemmas.List.{get_or_default, map-append}
 use Rattle.std.specs.List.{AllByRecursion}
 use Rattle.sour_syntax.specs.declared.literal.VarId.{VarId}
 use Rattle.sour_syntax.specs.declared.exit.Bind.{Bind}
 use Rattle.sour_syntax.specs.Exits.{bound_names}
 use Rattle.sour_syntax.specs.Scopes.{Scope}
 use Rattle.sour_syntax.specs.Targets.{VariablesDiffer, scope_of_names}
-use Rattle.sour_syntax.proofs.EachExpression.{all_second}
-use Rattle.sour_syntax.proofs.Everywhere.{all_push, take_next}
+use Rattle.sour_syntax.proofs.Everywhere.{AllByRecursion-parts, all_push, take_next}
+use Rattle.sour_syntax.proofs.NamedScopes.{set-swap, length-scope_of_names}
 use Rattle.sour_scope.specs.Landings.{AreNames}
-
--- what is marked first doesn't matter
-marks_commute : (scope : Scope) (x y : ℕ) → slice_set (slice_set scope x true) y true ≡ slice_set (slice_set scope y true) x true
-marks_commute [] zero zero = refl
-marks_commute [] zero (suc y) = refl
-marks_commute [] (suc x) zero = refl
-marks_commute [] (suc x) (suc y) = refl
-marks_commute (is_in ∷ scope) zero zero = refl
-marks_commute (is_in ∷ scope) zero (suc y) = refl
-marks_commute (is_in ∷ scope) (suc x) zero = refl
-marks_commute (is_in ∷ scope) (suc x) (suc y) = ap (λ (rest : Scope). is_in ∷ rest) (marks_commute scope x y)
 
 -- the last name is marked last
 pub scope_of_names-push : (count : ℕ) (names : List VarId) (x : VarId) → scope_of_names count (names ++ x ∷ []) ≡ slice_set (scope_of_names count names) x.0 true
 scope_of_names-push count [] x = refl
 scope_of_names-push count (name ∷ names) x =
-    ap (λ (scope : Scope). slice_set scope name.0 true) (scope_of_names-push count names x) ∙ marks_commute (scope_of_names count names) x.0 name.0
-
--- there is a mark for each variable
-pub length-scope_of_names : (count : ℕ) (names : List VarId) → length (scope_of_names count names) ≡ count
-length-scope_of_names count [] = length-replicate count false
-length-scope_of_names count (x ∷ names) = length-set (scope_of_names count names) x.0 true ∙ length-scope_of_names count names
+    ap (λ (scope : Scope). slice_set scope name.0 true) (scope_of_names-push count names x) ∙ set-swap (scope_of_names count names) x.0 name.0
 
 -- what isn't marked behind a mark is another, and wasn't marked before it
 unmarked : (scope : Scope) (y x : ℕ) → x < length scope → get_or (slice_set scope y true) x false ≡ false → (x ≢ y) × (get_or scope x false ≡ false)
@@ -73,7 +57,7 @@ differ_fails count [] rest x is differ = let not = none_marked count x.0 in absu
 differ_fails count (name ∷ names) rest x is differ =
     let numbered : ℕ → VarId = λ n. record { 0 = n } in
     marked (scope_of_names count names) name.0 x.0 is
-    (λ same. (all_second (λ (other : VarId). other ≢ name) names (x ∷ rest) differ.0).0 (ap numbered same))
+    (λ same. (AllByRecursion-parts (λ (other : VarId). other ≢ name) names (x ∷ rest) differ.0).1.0 (ap numbered same))
     (λ before. differ_fails count names rest x before differ.1)
 
 -- these are the marks of some binds, whose names are among so many and differ
@@ -96,13 +80,6 @@ names_split (first ∷ binds) zero bind within is = ap (λ (it : Bind). it.name 
 names_split (first ∷ binds) (suc place) bind within is =
     ap (λ (names : List VarId). first.name ∷ names) (names_split binds place bind (omega arith) is)
 
-module _ {X : Type 0} where
-  -- an element doesn't depend on what stands for none
-  get_or_any : (xs : List X) (place : ℕ) (default other : X) → place < length xs → get_or xs place default ≡ get_or xs place other
-  get_or_any [] place default other within = absurd (omega arith)
-  get_or_any (x ∷ xs) zero default other within = refl
-  get_or_any (x ∷ xs) (suc place) default other within = get_or_any xs place default other (omega arith)
-
 module _ (count : ℕ) (binds : List Bind) (place : ℕ) (default : Bind) (within : place < length binds) where
   -- the bind at this place
   abbrev bind : Bind
@@ -110,13 +87,13 @@ module _ (count : ℕ) (binds : List Bind) (place : ℕ) (default : Bind) (withi
 
   -- it is read there
   is : bind ≡ get_or binds place bind
-  is = get_or_any binds place default bind within
+  is = get_or_default binds place default bind within
 
   -- the mark that is read
   mark_read : (mask : Scope) (mark : Bool) → MaskSoFar count (take place binds) mask → bind.name.0 < count → mark ≡ get_or mask bind.name.0 mark → get_or mask bind.name.0 false ≡ mark
   mark_read mask mark so_far below read =
       let each : length mask ≡ count = ap length so_far.marked ∙ length-scope_of_names count (bound_names (take place binds)) in
-      get_or_any mask bind.name.0 false mark (omega arith) ∙ sym read
+      get_or_default mask bind.name.0 false mark (omega arith) ∙ sym read
 
   -- one bind more
   pub mask_more : (mask : Scope) (mark : Bool) → MaskSoFar count (take place binds) mask → bind.name.0 < count → mark ≡ get_or mask bind.name.0 mark → mark ≡ false
@@ -137,7 +114,7 @@ module _ (count : ℕ) (binds : List Bind) (place : ℕ) (default : Bind) (withi
       let before = bound_names (take place binds) in
       let behind = bound_names (drop (suc place) binds) in
       let all = subst (AllByRecursion (λ (x : VarId). x.0 < count)) (names_split binds place bind within is) are.0 in
-      let below = (all_second (λ (x : VarId). x.0 < count) before (bind.name ∷ behind) all).0 in
+      let below = (AllByRecursion-parts (λ (x : VarId). x.0 < count) before (bind.name ∷ behind) all).1.0 in
       omega arith
 
   -- a name that is marked already

@@ -16,13 +16,8 @@ use Rattle.sour_syntax.specs.declared.literal.VarId.{VarId}
 use Rattle.sour_syntax.specs.Names.{Numbers}
 use Rattle.sour_syntax.specs.Program.{NamesDiffer}
 use Rattle.sour_reader.specs.Mentions.{with_name, with_names}
-use Rattle.sour_syntax.proofs.Everywhere.{all_at, all_push}
-use Rattle.sour_scope.proofs.ListLaws.{slice_get-last}
-
--- a test that would hold only of the same names
-tested : (a b : List ℕ) (test : Bool) → bytes_eq a b ≡ test → a ≢ b → bytes_eq a b ≡ false
-tested a b true is other = absurd (other ((bytes_eq-Decides a b).0 is))
-tested a b false is other = is
+use Rattle.sour_syntax.proofs.Everywhere.{AllByRecursion-found, all_push, slice_get-last}
+use Rattle.sour_syntax.proofs.LabelPlaces.{tested}
 
 -- the test of two names that differ
 pub bytes_eq-other : (a b : List ℕ) → a ≢ b → bytes_eq a b ≡ false
@@ -36,7 +31,7 @@ first_place (first ∷ names) more name zero differ at =
     let same : name ≡ first = cc in
     ap (λ test. cond (not test) (1 + position_or_len (bytes_eq name) (names ++ more)) 0) (sym ((bytes_eq-Decides name first).1 same))
 first_place (first ∷ names) more name (suc place) differ at =
-    let other : name ≢ first = all_at (λ other. other ≢ first) names place name at differ.0 in
+    let other : name ≢ first = AllByRecursion-found (λ other. other ≢ first) names place name differ.0 at in
     let next : place ≡ position_or_len (bytes_eq name) (names ++ more) = first_place names more name place differ.1 at in
     let here : suc place ≡ 1 + position_or_len (bytes_eq name) (names ++ more) = omega arith in
     here ∙ ap (λ test. cond (not test) (1 + position_or_len (bytes_eq name) (names ++ more)) 0) (sym (bytes_eq-other name first other))
@@ -117,7 +112,7 @@ tested_new old new name x true is (inl (same, at)) =
     let place = (Decides-eqb x.0 (length old)).0 is in absurd (omega arith)
 tested_new old new name x true is (inr (absent, put, place)) = ((λ _. absent, λ _. refl), put)
 tested_new old new name x false is (inl (same, at)) =
-    ((λ wrong. absurd (false≢true wrong), λ absent. absurd (all_at (λ other. other ≢ name) old x.0 name at absent refl)), tt)
+    ((λ wrong. absurd (false≢true wrong), λ absent. absurd (AllByRecursion-found (λ other. other ≢ name) old x.0 name absent at refl)), tt)
 tested_new old new name x false is (inr (absent, put, place)) =
     absurd (false≢true (sym is ∙ (Decides-eqb x.0 (length old)).1 place))
 
@@ -141,7 +136,7 @@ named_before named [] (suc place) thing differ at = absurd (cc)
 named_before named (first ∷ things) zero thing differ at = tt
 named_before named (first ∷ things) (suc place) thing differ at =
     let there : slice_get (map named things) place ≡ Some (named thing) = slice_get-map named things place ∙ ap (option_map named) at in
-    (λ same. all_at (λ other. other ≢ named first) (map named things) place (named thing) there differ.0 (sym same), named_before named things place thing differ.1 at)
+    (λ same. AllByRecursion-found (λ other. other ≢ named first) (map named things) place (named thing) differ.0 there (sym same), named_before named things place thing differ.1 at)
 
 -- where no two things have the same name, the name of each is new
 pub new_named : {N : Type 0} (named : N → List ℕ) (things : List N) (place : ℕ) (thing : N) (seen : List (List ℕ)) (test : Bool)

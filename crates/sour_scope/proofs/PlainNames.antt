@@ -1,17 +1,14 @@
 -- The names of a text begin with a letter or `_`, and have no `/`.
-use Rattle.std.proofs.Common.{◌≡◌, ◌≢◌, ◌^◌, ◌<◌, ℕ, Bool, true, false, cond, List, [], ◌∷◌, ◌++◌, Option, None, Some, refl, sym, ap, ◌∙◌, subst, arith}
+use Rattle.std.proofs.Common.{◌≡◌, ◌≢◌, ◌^◌, ◌<◌, ℕ, Bool, true, false, cond, List, [], ◌∷◌, ◌++◌, Option, None, Some, sym, ap, ◌∙◌}
 use Rattle.std.specs.Prelude.{MatchOption}
 use Rattle.std.specs.List.{AllByRecursion, AllPass, list_any}
-use Rattle.std.specs.Char.{digit_value}
 use Rattle.std.specs.Str.{bytes_eq}
-use Rattle.std.specs.Str.Parse.{AllDigits}
-use Rattle.std.proofs.lemmas.Fmt.{decimal_is_IsNumeral}
 use Rattle.std.proofs.lemmas.List.Elements.{All-head, All-tail}
 use Rattle.sour_tokens.specs.Byte.{begins_word, continues_word}
 use Rattle.sour_syntax.specs.Labels.{automatic_label}
 use Rattle.sour_syntax.specs.Program.{IsPlainName}
 use Rattle.sour_syntax.proofs.AutomaticLabels.{plain_automatic}
-use Rattle.sour_syntax.proofs.EachExpression.{all_joined}
+use Rattle.sour_syntax.proofs.Everywhere.{AllByRecursion-append}
 use Rattle.sour_reader.specs.declared.raw.RawSimple.{RawSimple}
 use Rattle.sour_reader.specs.declared.raw.RawSimple.TheVariants as simple
 use Rattle.sour_reader.specs.declared.raw.RawExpr.{RawExpr}
@@ -71,32 +68,32 @@ names_of_expr (expr.Cell x index) tokens (place, whole, name, spells) = (name, n
 names_of_expr (expr.Length a) tokens (operand, whole, spells) = names_of_simple a operand spells
 names_of_expr (expr.Not a) tokens (operand, whole, spells) = names_of_simple a operand spells
 names_of_expr (expr.Binary op a b) tokens (left, right, whole, first, second) =
-    all_joined IsName (simple_names a) (simple_names b) (names_of_simple a left first) (names_of_simple b right second)
+    AllByRecursion-append IsName (simple_names a) (simple_names b) (names_of_simple a left first) (names_of_simple b right second)
 
 -- the names in expressions
 names_of_each : (es : List RawExpr) (tokens : List (List ℕ)) → SpellsEach es tokens → AllByRecursion IsName (each_names es)
 names_of_each [] tokens spells = tt
-names_of_each (e ∷ []) tokens spells = all_joined IsName (expr_names e) [] (names_of_expr e tokens spells) tt
+names_of_each (e ∷ []) tokens spells = AllByRecursion-append IsName (expr_names e) [] (names_of_expr e tokens spells) tt
 names_of_each (e ∷ other ∷ es) tokens (first, rest, whole, one, others) =
-    all_joined IsName (expr_names e) (each_names (other ∷ es)) (names_of_expr e first one) (names_of_each (other ∷ es) rest others)
+    AllByRecursion-append IsName (expr_names e) (each_names (other ∷ es)) (names_of_expr e first one) (names_of_each (other ∷ es) rest others)
 
 -- the names in the values of a map
 names_of_binds : (binds : List RawBind) (tokens : List (List ℕ)) → SpellsBinds binds tokens → AllByRecursion IsName (map_names binds)
 names_of_binds [] tokens spells = tt
-names_of_binds (bind ∷ []) tokens (value, whole, name, spells) = all_joined IsName (bind_names bind) [] (names_of_expr bind.value value spells) tt
+names_of_binds (bind ∷ []) tokens (value, whole, name, spells) = AllByRecursion-append IsName (bind_names bind) [] (names_of_expr bind.value value spells) tt
 names_of_binds (bind ∷ other ∷ binds) tokens (first, rest, whole, (value, own, name, spells), others) =
-    all_joined IsName (bind_names bind) (map_names (other ∷ binds)) (names_of_expr bind.value value spells) (names_of_binds (other ∷ binds) rest others)
+    AllByRecursion-append IsName (bind_names bind) (map_names (other ∷ binds)) (names_of_expr bind.value value spells) (names_of_binds (other ∷ binds) rest others)
 
 -- the names in the maps of further frames
 names_of_extras : (extras : List RawExtra) (tokens : List (List ℕ)) → SpellsExtras extras tokens → AllByRecursion IsName (all_names extra_names extras)
 names_of_extras [] tokens spells = tt
 names_of_extras (extra ∷ extras) tokens (first, rest, whole, (place, map, own, target, result, (inner, bracket, spells)), others) =
-    all_joined IsName (extra_names extra) (all_names extra_names extras) (names_of_binds extra.map inner spells) (names_of_extras extras rest others)
+    AllByRecursion-append IsName (extra_names extra) (all_names extra_names extras) (names_of_binds extra.map inner spells) (names_of_extras extras rest others)
 
 -- the names in the maps of an exit
 names_of_exit : (exit : RawExit) (tokens : List (List ℕ)) → SpellsExit exit tokens → AllByRecursion IsName (exit_names exit)
 names_of_exit exit tokens (place, map, extras, whole, target, (inner, bracket, spells), others) =
-    all_joined IsName (map_names exit.map) (all_names extra_names exit.extras) (names_of_binds exit.map inner spells) (names_of_extras exit.extras extras others)
+    AllByRecursion-append IsName (map_names exit.map) (all_names extra_names exit.extras) (names_of_binds exit.map inner spells) (names_of_extras exit.extras extras others)
 
 -- the names in an instruction that is spelled are names
 pub names_of_instr : (instr : RawInstr) (tokens : List (List ℕ)) → SpellsInstr instr tokens → AllByRecursion IsName (instr_names instr)
@@ -106,17 +103,17 @@ names_of_instr (Assign x e) tokens (value, whole, name, spells) = (name, names_o
 names_of_instr (ArrayLength x e) tokens (count, whole, name, spells) = (name, names_of_expr e count spells)
 names_of_instr (ArrayList x es) tokens (cells, whole, name, spells) = (name, names_of_each es cells spells)
 names_of_instr (Store x index e) tokens (place, value, whole, name, first, second) =
-    (name, all_joined IsName (simple_names index) (expr_names e) (names_of_simple index place first) (names_of_expr e value second))
+    (name, AllByRecursion-append IsName (simple_names index) (expr_names e) (names_of_simple index place first) (names_of_expr e value second))
 names_of_instr (Print e) tokens (value, whole, spells) = names_of_expr e value spells
 names_of_instr (Read x) tokens spells = (spells.1, tt)
 names_of_instr (Branch e a b) tokens (value, whole, spells, first, second) = names_of_expr e value spells
 names_of_instr (Goto a) tokens spells = tt
 names_of_instr (Call x callee es) tokens (function, arguments, whole, name, first, second) =
-    (name, all_joined IsName (simple_names callee) (each_names es) (names_of_simple callee function first) (names_of_each es arguments second))
+    (name, AllByRecursion-append IsName (simple_names callee) (each_names es) (names_of_simple callee function first) (names_of_each es arguments second))
 names_of_instr (Return e) tokens (value, whole, spells) = names_of_expr e value spells
 names_of_instr Stop tokens spells = tt
 names_of_instr (Assume es exit) tokens (each, back, whole, first, second) =
-    all_joined IsName (each_names es) (exit_names exit) (names_of_each es each first) (names_of_exit exit back second)
+    AllByRecursion-append IsName (each_names es) (exit_names exit) (names_of_each es each first) (names_of_exit exit back second)
 
 -- the same behind a label, and the label is a name
 names_of_labelled : (label : Option (List ℕ)) (instr : RawInstr) (tokens : List (List ℕ)) → SpellsLabelled label instr tokens → AllByRecursion IsName (instr_names instr)
@@ -127,7 +124,7 @@ names_of_labelled (Some label) instr tokens (rest, whole, name, spells) = names_
 with_name-all : (P : List ℕ → Type 0) (names : List (List ℕ)) (name : List ℕ) (test : Bool) → AllByRecursion P names → P name
     → AllByRecursion P (cond test names (names ++ name ∷ []))
 with_name-all P names name true all holds = all
-with_name-all P names name false all holds = all_joined P names (name ∷ []) all (holds, tt)
+with_name-all P names name false all holds = AllByRecursion-append P names (name ∷ []) all (holds, tt)
 
 -- what holds of the names and of those that are put behind them holds of all
 with_names-all : (P : List ℕ → Type 0) (names others : List (List ℕ)) → AllByRecursion P names → AllByRecursion P others → AllByRecursion P (with_names names others)

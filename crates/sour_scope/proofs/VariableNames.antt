@@ -2,23 +2,19 @@
 use Rattle.std.proofs.Common.{◌≡◌, ◌≢◌, ℕ, Bool, true, false, cond, ◌||◌, List, [], ◌∷◌, ◌++◌, append_assoc, append-nil, refl, sym, ap, ◌∙◌, subst}
 use Rattle.std.specs.List.{AllByRecursion, list_any}
 use Rattle.std.specs.Str.{bytes_eq}
-use Rattle.std.proofs.lemmas.Slice.Eq.{bytes_eq-Decides}
 use Rattle.sour_syntax.specs.Program.{NamesDiffer}
-use Rattle.sour_syntax.proofs.EachExpression.{all_second}
+use Rattle.sour_syntax.proofs.Everywhere.{AllByRecursion-parts}
+use Rattle.sour_syntax.proofs.NameLemmas.{differs}
 use Rattle.sour_reader.specs.declared.raw.RawLine.{RawLine}
 use Rattle.sour_reader.specs.Mentions.{with_name, with_names, with_lines, instr_names, variables_of}
 use Rattle.sour_scope.proofs.NameLaws.{NamesDiffer-push, none_same}
-
--- a test that fails of two names tells them apart
-apart : (a b : List ℕ) → bytes_eq a b ≡ false → b ≢ a
-apart a b failed same = let found : bytes_eq a b ≡ true = (bytes_eq-Decides a b).1 (sym same) in cc
 
 -- the first isn't the name, nor is one behind it
 absent_first : (name first : List ℕ) (names : List (List ℕ)) (test : Bool) → bytes_eq name first ≡ test
     → (list_any (bytes_eq name) names ≡ false → AllByRecursion (λ other. other ≢ name) names)
     → test || list_any (bytes_eq name) names ≡ false → AllByRecursion (λ other. other ≢ name) (first ∷ names)
 absent_first name first names true is rest none = absurd (cc)
-absent_first name first names false is rest none = (apart name first is, rest none)
+absent_first name first names false is rest none = (differs name first is, rest none)
 
 -- where no name passes the test, the name isn't among them
 absent : (name : List ℕ) (names : List (List ℕ)) → list_any (bytes_eq name) names ≡ false → AllByRecursion (λ other. other ≢ name) names
@@ -51,7 +47,7 @@ variables_differ parameters lines = with_lines-differ (with_names [] parameters)
 behind_absent : (names : List (List ℕ)) (name : List ℕ) (others : List (List ℕ)) → NamesDiffer (names ++ name ∷ others) → AllByRecursion (λ other. other ≢ name) names
 behind_absent [] name others differ = tt
 behind_absent (first ∷ names) name others differ =
-    ((λ same. (all_second (λ other. other ≢ first) names (name ∷ others) differ.0).0 (sym same)), behind_absent names name others differ.1)
+    ((λ same. (AllByRecursion-parts (λ other. other ≢ first) names (name ∷ others) differ.0).1.0 (sym same)), behind_absent names name others differ.1)
 
 -- names that all differ are put behind one another
 with_names-all_new : (names others : List (List ℕ)) → NamesDiffer (names ++ others) → with_names names others ≡ names ++ others

@@ -1,12 +1,17 @@
--- A step of a frame that stands at a place of its lines.
-use Rattle.std.proofs.Common.{◌≡◌, ℕ, ◌+◌, ◌<◌, List, ◌∷◌, None, Some, length, drop, ap, ◌∙◌}
+-- The lines of a code, and a step of a frame that stands at a place of them.
+use Rattle.std.proofs.Common.{◌≡◌, ℕ, ◌+◌, ◌<◌, List, ◌∷◌, Option, None, Some, length, drop, ap, ◌∙◌}
 use Rattle.std.specs.List.{slice_get}
 use Rattle.sour_syntax.specs.declared.instruction.Line.{Line}
+use Rattle.sour_syntax.specs.BodyView.{BodyView}
 use Rattle.sour_syntax.specs.Labels.{LabelsDiffer, from_label, first_label}
 use Rattle.sour_syntax.specs.Program.{ProgramView}
 use Rattle.sour_syntax.proofs.LabelPlaces.{from_label-first_label-drop, drop-slice_get}
-use Rattle.sour_semantics.specs.State.{Frame, State}
-use Rattle.sour_semantics.specs.Step.{Choice, lines_of, act, act_first, act_top, unless_ended, step}
+use Rattle.sour_semantics.specs.State.{Frame, FrameCode, State}
+use Rattle.sour_semantics.specs.Step.{Choice, body_or_empty, body_at, lines_of, act, act_first, act_top, unless_ended, step}
+
+-- the lines of a code are those of its body
+pub lines_of-body : (program : ProgramView) (code : FrameCode) (body : BodyView) → body_at program code ≡ Some body → lines_of program code ≡ body.lines
+lines_of-body program code body runs = ap (λ (found : Option BodyView). (body_or_empty found).lines) runs
 
 -- a step of a frame that stands at a place of its lines is the instruction there
 pub step-at_place : (program : ProgramView) (choice : Choice) (s : State) (frame : Frame) (frames : List Frame) (place : ℕ) (line : Line)

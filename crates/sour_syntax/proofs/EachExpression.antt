@@ -1,5 +1,5 @@
 -- What holds of each variable of some expressions.
-use Rattle.std.proofs.Common.{◌≡◌, ◌<◌, ◌↔◌, Bool, IsTrue, true, false, ℕ, zero, suc, List, [], ◌∷◌, ◌++◌, length, get_or, arith}
+use Rattle.std.proofs.Common.{◌≡◌, ◌<◌, ◌↔◌, Bool, IsTrue, true, false, ℕ, List, [], ◌∷◌, ◌++◌, length, get_or}
 use Rattle.std.specs.List.{AllByRecursion}
 use Rattle.sour_syntax.specs.declared.literal.VarId.{VarId}
 use Rattle.sour_syntax.specs.declared.expression.Expr.{Expr}
@@ -7,27 +7,7 @@ use Rattle.sour_syntax.specs.declared.exit.Bind.{Bind}
 use Rattle.sour_syntax.specs.declared.exit.Extra.{Extra}
 use Rattle.sour_syntax.specs.Exits.{bound_values, extras_values}
 use Rattle.sour_syntax.specs.Scopes.{variables_of_expr, variables_of_each}
-
-module _ {X : Type 0} (P : X → Type 0) where
-  -- what holds of two lists holds of them as one
-  pub all_joined : (xs ys : List X) → AllByRecursion P xs → AllByRecursion P ys → AllByRecursion P (xs ++ ys)
-  all_joined [] ys all others = others
-  all_joined (x ∷ xs) ys all others = (all.0, all_joined xs ys all.1 others)
-
-  -- and the other way round
-  pub all_first : (xs ys : List X) → AllByRecursion P (xs ++ ys) → AllByRecursion P xs
-  all_first [] ys all = tt
-  all_first (x ∷ xs) ys all = (all.0, all_first xs ys all.1)
-
-  pub all_second : (xs ys : List X) → AllByRecursion P (xs ++ ys) → AllByRecursion P ys
-  all_second [] ys all = all
-  all_second (x ∷ xs) ys all = all_second xs ys all.1
-
-  -- what holds of each element holds of the one at a place
-  pub all_within : (xs : List X) (place : ℕ) (other : X) → place < length xs → AllByRecursion P xs → P (get_or xs place other)
-  all_within [] place other within all = absurd (omega arith)
-  all_within (first ∷ xs) zero other within all = all.0
-  all_within (first ∷ xs) (suc place) other within all = all_within xs place other (omega arith) all.1
+use Rattle.sour_syntax.proofs.Everywhere.{AllByRecursion-append, AllByRecursion-parts, all_within}
 
 -- what holds of each variable of some expressions holds of those of each expression
 module _ (P : VarId → Type 0) where
@@ -37,11 +17,12 @@ module _ (P : VarId → Type 0) where
 
   pub each_joined : (es : List Expr) → AllByRecursion OfExpression es → AllByRecursion P (variables_of_each es)
   each_joined [] all = tt
-  each_joined (e ∷ es) all = all_joined P (variables_of_expr e) (variables_of_each es) all.0 (each_joined es all.1)
+  each_joined (e ∷ es) all = AllByRecursion-append P (variables_of_expr e) (variables_of_each es) all.0 (each_joined es all.1)
 
   pub each_split : (es : List Expr) → AllByRecursion P (variables_of_each es) → AllByRecursion OfExpression es
   each_split [] all = tt
-  each_split (e ∷ es) all = (all_first P (variables_of_expr e) (variables_of_each es) all, each_split es (all_second P (variables_of_expr e) (variables_of_each es) all))
+  each_split (e ∷ es) all =
+      let parts = AllByRecursion-parts P (variables_of_expr e) (variables_of_each es) all in (parts.0, each_split es parts.1)
 
   pub each_at : (es : List Expr) (place : ℕ) (other : Expr) → place < length es → AllByRecursion P (variables_of_each es) → OfExpression (get_or es place other)
   each_at es place other within all = all_within OfExpression es place other within (each_split es all)
@@ -50,16 +31,16 @@ module _ (P : VarId → Type 0) where
   pub values_joined : (es others : List Expr) → AllByRecursion P (variables_of_each es) → AllByRecursion P (variables_of_each others) → AllByRecursion P (variables_of_each (es ++ others))
   values_joined [] others all more = more
   values_joined (e ∷ es) others all more =
-      all_joined P (variables_of_expr e) (variables_of_each (es ++ others)) (all_first P (variables_of_expr e) (variables_of_each es) all)
-      (values_joined es others (all_second P (variables_of_expr e) (variables_of_each es) all) more)
+      let parts = AllByRecursion-parts P (variables_of_expr e) (variables_of_each es) all in
+      AllByRecursion-append P (variables_of_expr e) (variables_of_each (es ++ others)) parts.0 (values_joined es others parts.1 more)
 
   -- and the other way round
   pub values_split : (es others : List Expr) → AllByRecursion P (variables_of_each (es ++ others)) → AllByRecursion P (variables_of_each es) × AllByRecursion P (variables_of_each others)
   values_split [] others all = (tt, all)
   values_split (e ∷ es) others all =
-      let rest : AllByRecursion P (variables_of_each es) × AllByRecursion P (variables_of_each others) =
-      values_split es others (all_second P (variables_of_expr e) (variables_of_each (es ++ others)) all) in
-      (all_joined P (variables_of_expr e) (variables_of_each es) (all_first P (variables_of_expr e) (variables_of_each (es ++ others)) all) rest.0, rest.1)
+      let parts = AllByRecursion-parts P (variables_of_expr e) (variables_of_each (es ++ others)) all in
+      let rest : AllByRecursion P (variables_of_each es) × AllByRecursion P (variables_of_each others) = values_split es others parts.1 in
+      (AllByRecursion-append P (variables_of_expr e) (variables_of_each es) parts.0 rest.0, rest.1)
 
   -- what holds of each variable of the value that is bound
   abbrev pub OfBind : Bind → Type 0
@@ -68,14 +49,12 @@ module _ (P : VarId → Type 0) where
   -- what holds of the values that are bound holds of each
   pub binds_joined : (binds : List Bind) → AllByRecursion OfBind binds → AllByRecursion P (variables_of_each (bound_values binds))
   binds_joined [] all = tt
-  binds_joined (bind ∷ binds) all = all_joined P (variables_of_expr bind.value) (variables_of_each (bound_values binds)) all.0 (binds_joined binds all.1)
+  binds_joined (bind ∷ binds) all = AllByRecursion-append P (variables_of_expr bind.value) (variables_of_each (bound_values binds)) all.0 (binds_joined binds all.1)
 
   pub binds_split : (binds : List Bind) → AllByRecursion P (variables_of_each (bound_values binds)) → AllByRecursion OfBind binds
   binds_split [] all = tt
-  binds_split (bind ∷ binds) all = (
-    all_first P (variables_of_expr bind.value) (variables_of_each (bound_values binds)) all,
-    binds_split binds (all_second P (variables_of_expr bind.value) (variables_of_each (bound_values binds)) all),
-  )
+  binds_split (bind ∷ binds) all =
+      let parts = AllByRecursion-parts P (variables_of_expr bind.value) (variables_of_each (bound_values binds)) all in (parts.0, binds_split binds parts.1)
 
   pub bind_at : (binds : List Bind) (place : ℕ) (other : Bind) → place < length binds → AllByRecursion P (variables_of_each (bound_values binds)) → OfBind (get_or binds place other)
   bind_at binds place other within all = all_within OfBind binds place other within (binds_split binds all)
@@ -115,10 +94,10 @@ module _ (P : VarId → Type 0) where
       → (IsTrue first ↔ AllByRecursion P (variables_of_each es)) → (IsTrue second ↔ AllByRecursion P (variables_of_each others))
       → IsTrue second ↔ AllByRecursion P (variables_of_each es ++ variables_of_each others)
   joined_then es others first second held one other = (
-    (λ more. all_joined P (variables_of_each es) (variables_of_each others) (one.0 held) (other.0 more)),
-    λ all. other.1 (all_second P (variables_of_each es) (variables_of_each others) all),
+    (λ more. AllByRecursion-append P (variables_of_each es) (variables_of_each others) (one.0 held) (other.0 more)),
+    λ all. other.1 (AllByRecursion-parts P (variables_of_each es) (variables_of_each others) all).1,
   )
 
   pub joined_else : (es others : List Expr) (first : Bool) → first ≡ false → (IsTrue first ↔ AllByRecursion P (variables_of_each es))
       → IsTrue first ↔ AllByRecursion P (variables_of_each es ++ variables_of_each others)
-  joined_else es others first failed one = ((λ held. absurd (cc)), λ all. one.1 (all_first P (variables_of_each es) (variables_of_each others) all))
+  joined_else es others first failed one = ((λ held. absurd (cc)), λ all. one.1 (AllByRecursion-parts P (variables_of_each es) (variables_of_each others) all).0)

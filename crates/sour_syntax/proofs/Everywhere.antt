@@ -1,20 +1,85 @@
 -- What holds of each element of a list.
-use Rattle.std.proofs.Common.{◌≡◌, ℕ, zero, suc, ◌+◌, ◌<◌, List, [], ◌∷◌, ◌++◌, Some, length, take, get_or, slice_get, sym, ap, ◌∙◌, subst}
+use Rattle.std.proofs.Common.{◌≡◌, ℕ, zero, suc, ◌+◌, ◌<◌, List, [], ◌∷◌, ◌++◌, Option, Some, Contains, length, set, replicate, take, get_or, slice_get, refl, sym, ap, ◌∙◌, subst, arith}
+use Rattle.std.specs.Prelude.{IfSome}
 use Rattle.std.specs.List.{AllByRecursion, AllZip}
 use Rattle.std.proofs.lemmas.List.{take_more}
+use Rattle.std.proofs.lemmas.Option.{none-some, slice_get_within, slice_get-get_or, get_or_from_slice_get}
 use Rattle.std.proofs.lemmas.Slice.Zip.{all_zipped_more}
+
+-- of each element holds what follows from what holds of it
+pub AllByRecursion-weaker : {A : Type 0} (P Q : A → Type 0) → ((x : A) → P x → Q x) → (xs : List A) → AllByRecursion P xs
+    → AllByRecursion Q xs
+AllByRecursion-weaker P Q follows [] all = tt
+AllByRecursion-weaker P Q follows (x ∷ xs) all = (follows x all.0, AllByRecursion-weaker P Q follows xs all.1)
+
+-- it holds of the elements of two lists, one behind the other
+pub AllByRecursion-append : {A : Type 0} (P : A → Type 0) (xs ys : List A) → AllByRecursion P xs → AllByRecursion P ys
+    → AllByRecursion P (xs ++ ys)
+AllByRecursion-append P [] ys first second = second
+AllByRecursion-append P (x ∷ xs) ys first second = (first.0, AllByRecursion-append P xs ys first.1 second)
+
+-- it holds of the elements of each of them
+pub AllByRecursion-parts : {A : Type 0} (P : A → Type 0) (xs ys : List A) → AllByRecursion P (xs ++ ys)
+    → AllByRecursion P xs × AllByRecursion P ys
+AllByRecursion-parts P [] ys all = (tt, all)
+AllByRecursion-parts P (x ∷ xs) ys all =
+    let rest : AllByRecursion P xs × AllByRecursion P ys = AllByRecursion-parts P xs ys all.1 in
+    ((all.0, rest.0), rest.1)
+
+-- it holds of an element that is looked up, if there is one
+pub IfSome-slice_get : {A : Type 0} (P : A → Type 0) (xs : List A) (place : ℕ) → AllByRecursion P xs → IfSome (slice_get xs place) P
+IfSome-slice_get P [] place all = tt
+IfSome-slice_get P (x ∷ xs) zero all = all.0
+IfSome-slice_get P (x ∷ xs) (suc place) all = IfSome-slice_get P xs place all.1
+
+-- it holds of the element that was found
+pub AllByRecursion-found : {A : Type 0} (P : A → Type 0) (xs : List A) (place : ℕ) (x : A) → AllByRecursion P xs
+    → slice_get xs place ≡ Some x → P x
+AllByRecursion-found {A} P xs place x all found =
+    let Holds : Option A → Type 0 = λ found. IfSome found P in
+    subst Holds found (IfSome-slice_get P xs place all)
+
+-- it holds still when an element gives way to another of which it holds
+pub AllByRecursion-set : {A : Type 0} (P : A → Type 0) (xs : List A) (place : ℕ) (x : A) → AllByRecursion P xs → P x
+    → AllByRecursion P (set xs place x)
+AllByRecursion-set P [] place x all holds = tt
+AllByRecursion-set P (first ∷ xs) zero x all holds = (holds, all.1)
+AllByRecursion-set P (first ∷ xs) (suc place) x all holds = (all.0, AllByRecursion-set P xs place x all.1 holds)
+
+-- it holds of each of some copies
+pub AllByRecursion-replicate : {A : Type 0} (P : A → Type 0) (count : ℕ) (x : A) → P x → AllByRecursion P (replicate count x)
+AllByRecursion-replicate P zero x holds = tt
+AllByRecursion-replicate P (suc count) x holds = (holds, AllByRecursion-replicate P count x holds)
 
 module _ {X : Type 0} (P : X → Type 0) where
   -- one element more
   pub all_push : (xs : List X) (x : X) → AllByRecursion P xs → P x → AllByRecursion P (xs ++ x ∷ [])
-  all_push [] x all last = (last, tt)
-  all_push (first ∷ xs) x all last = (all.0, all_push xs x all.1 last)
+  all_push xs x all last = AllByRecursion-append P xs (x ∷ []) all (last, tt)
 
-  -- the element at a place
-  pub all_at : (xs : List X) (place : ℕ) (x : X) → slice_get xs place ≡ Some x → AllByRecursion P xs → P x
-  all_at [] place x at all = cc
-  all_at (first ∷ xs) zero x at all = let same : first ≡ x = cc in subst P same all.0
-  all_at (first ∷ xs) (suc place) x at all = all_at xs place x at all.1
+  -- what holds of each element holds of the one at a place
+  pub all_within : (xs : List X) (place : ℕ) (other : X) → place < length xs → AllByRecursion P xs → P (get_or xs place other)
+  all_within xs place other within all = AllByRecursion-found P xs place (get_or xs place other) all (slice_get-get_or xs place other within)
+
+-- what stands at a place of a list is in it
+pub Contains-slice_get : {X : Type 0} (xs : List X) (place : ℕ) (x : X) → slice_get xs place ≡ Some x → Contains xs x
+Contains-slice_get xs place x at = (place, slice_get_within xs place x at, get_or_from_slice_get xs place x x at)
+
+-- what is in a list of one element is that one
+pub Contains-one : {X : Type 0} (x y : X) → Contains (x ∷ []) y → y ≡ x
+Contains-one x y (zero, within, same) = sym same
+Contains-one x y (suc place, within, same) = absurd (omega (arith, within))
+
+-- what is found among the first elements is found among all
+pub slice_get-front : {A : Type 0} (xs ys : List A) (place : ℕ) (x : A) → slice_get xs place ≡ Some x
+    → slice_get (xs ++ ys) place ≡ Some x
+slice_get-front [] ys place x found = absurd (none-some x found)
+slice_get-front (first ∷ xs) ys zero x found = found
+slice_get-front (first ∷ xs) ys (suc place) x found = slice_get-front xs ys place x found
+
+-- the element behind the others
+pub slice_get-last : {X : Type 0} (xs : List X) (x : X) → slice_get (xs ++ x ∷ []) (length xs) ≡ Some x
+slice_get-last [] x = refl
+slice_get-last (y ∷ xs) x = slice_get-last xs x
 
 -- the first so many elements, and the next
 pub take_next : {X : Type 0} (xs : List X) (count : ℕ) (x : X) → count < length xs → x ≡ get_or xs count x → take (count + 1) xs ≡ take count xs ++ x ∷ []

@@ -1,18 +1,14 @@
 -- The jumps of some lines, one after another.
 use Rattle.std.proofs.Common.{◌≡◌, ℕ, zero, suc, ◌+◌, ◌<◌, List, [], ◌∷◌, ◌++◌, Some, Contains, length, take, get_or, slice_get, refl, sym, ap, subst}
 use Rattle.std.specs.List.{AllByRecursion}
-use Rattle.std.proofs.lemmas.Option.{slice_get_within, get_or_from_slice_get}
+use Rattle.std.proofs.lemmas.Option.{get_or_from_slice_get}
 use Rattle.sour_syntax.specs.declared.instruction.Instr.{Instr}
 use Rattle.sour_syntax.specs.declared.instruction.Instr.TheVariants.{Var, Drop, Assign, ArrayLength, ArrayList, Store, Print, Read, Branch, Goto, Call, Return, Stop, Assume}
 use Rattle.sour_syntax.specs.declared.instruction.Line.{Line}
 use Rattle.sour_syntax.specs.declared.jump.Jump.{Jump}
 use Rattle.sour_syntax.specs.Labels.{labels_of}
-use Rattle.sour_syntax.proofs.Everywhere.{take_next}
+use Rattle.sour_syntax.proofs.Everywhere.{Contains-slice_get, take_next}
 use Rattle.sour_syntax.specs.Jumps.{named_labels, GoesAmong, GoesTo, GoTo, NamesItsLabels}
-
--- what stands at a place of a list is in it
-there : {X : Type 0} (xs : List X) (place : ℕ) (x : X) → slice_get xs place ≡ Some x → Contains xs x
-there xs place x at = (place, slice_get_within xs place x at, get_or_from_slice_get xs place x x at)
 
 -- an instruction that goes somewhere among some labels names no others
 names_its : (labels : List (List ℕ)) (instr : Instr) (jump : Jump) → GoesAmong labels instr jump → AllByRecursion (Contains labels) (named_labels instr)
@@ -24,8 +20,8 @@ names_its labels (ArrayList x es) jump goes = tt
 names_its labels (Store x i e) jump goes = tt
 names_its labels (Print e) jump goes = tt
 names_its labels (Read x) jump goes = tt
-names_its labels (Branch e a b) jump goes = (there labels jump.first a goes.0, (there labels jump.second b goes.1, tt))
-names_its labels (Goto a) jump goes = (there labels jump.first a goes, tt)
+names_its labels (Branch e a b) jump goes = (Contains-slice_get labels jump.first a goes.0, (Contains-slice_get labels jump.second b goes.1, tt))
+names_its labels (Goto a) jump goes = (Contains-slice_get labels jump.first a goes, tt)
 names_its labels (Call x callee es) jump goes = tt
 names_its labels (Return e) jump goes = tt
 names_its labels Stop jump goes = tt

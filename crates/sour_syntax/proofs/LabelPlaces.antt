@@ -20,7 +20,7 @@ from_label-first label line lines same =
     ap (λ test. cond test (line ∷ lines) (from_label label lines)) ((bytes_eq-Decides line.label label).1 same)
 
 -- the test whether two labels are the same fails where they differ
-tested : (a b : List ℕ) (test : Bool) → bytes_eq a b ≡ test → a ≢ b → test ≡ false
+pub tested : (a b : List ℕ) (test : Bool) → bytes_eq a b ≡ test → a ≢ b → test ≡ false
 tested a b true is other = absurd (other ((bytes_eq-Decides a b).0 is))
 tested a b false is other = refl
 
@@ -47,6 +47,13 @@ drop-suc (first ∷ lines) (suc place) line found = drop-suc lines place line fo
 -- the lines from a place on begin with the line at that place
 pub drop-slice_get : (lines : List Line) (place : ℕ) (line : Line) → slice_get lines place ≡ Some line → drop place lines ≡ line ∷ drop (place + 1) lines
 drop-slice_get lines place line found = rw add-one (drop-suc lines place line found)
+
+-- from a place of lines that end in a terminator on they end in one
+pub EndsInTerminator-from : (lines : List Line) (place : ℕ) → place < length lines → EndsInTerminator lines → EndsInTerminator (drop place lines)
+EndsInTerminator-from [] place within end = absurd end
+EndsInTerminator-from (line ∷ lines) zero within end = end
+EndsInTerminator-from (line ∷ []) (suc place) within end = absurd (omega arith)
+EndsInTerminator-from (line ∷ next ∷ lines) (suc place) within end = EndsInTerminator-from (next ∷ lines) place (omega arith) end
 
 -- there is a line from each place on from which the lines end in a terminator
 pub lt-EndsInTerminator : (lines : List Line) (place : ℕ) → EndsInTerminator (drop place lines) → place < length lines

@@ -8,7 +8,7 @@ use Rattle.std.proofs.lemmas.Option.{slice_get_within, same_Some}
 use Rattle.sour_syntax.specs.declared.instruction.Line.{Line}
 use Rattle.sour_syntax.specs.Labels.{LabelsDiffer, labels_of, IsPlaceOf}
 use Rattle.sour_syntax.proofs.NameLemmas.{Located, located}
-use Rattle.sour_syntax.proofs.Everywhere.{all_push, all_at, take_next}
+use Rattle.sour_syntax.proofs.Everywhere.{AllByRecursion-found, all_push, take_next}
 use Rattle.sour_syntax.proofs.Following.{same_place, label_at-IsPlaceOf, IsPlaceOf-within}
 
 -- a name is found at a place where it is, or is none of the names
@@ -126,6 +126,6 @@ found_exactly lines label names (Some at) differ are found none place =
       λ same. subst (IsPlaceOf lines label) (same_Some at place same) there,
     )
 found_exactly lines label names None differ are found none place = (
-  (λ is. absurd (all_at (λ other. other ≢ label) names place label (ap (λ others. slice_get others place) are ∙ is) none refl)),
+  (λ is. absurd (AllByRecursion-found (λ other. other ≢ label) names place label none (ap (λ others. slice_get others place) are ∙ is) refl)),
   λ same. cc,
 )

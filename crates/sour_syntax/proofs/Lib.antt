@@ -10,5 +10,6 @@ pub mod GivesLaws
 pub mod SpreadLaws
 pub mod LastLine
 pub mod ScopeLists
+pub mod NamedScopes
 pub mod NoExits
 pub mod AutomaticLabels

@@ -12,7 +12,7 @@ Located names name place true = slice_get names place ≡ Some name
 Located names name place false = AllByRecursion (λ other. other ≢ name) names × (place ≡ length names)
 
 -- two names differ where the test whether they are the same fails
-differs : (a b : List ℕ) → bytes_eq a b ≡ false → b ≢ a
+pub differs : (a b : List ℕ) → bytes_eq a b ≡ false → b ≢ a
 differs a b other same =
     let equal : bytes_eq a b ≡ true = (bytes_eq-Decides a b).1 (sym same) in cc
 

@@ -1,6 +1,6 @@
 -- The variables in scope as lists, for each place.
 use Rattle.std.proofs.Common.{◌≡◌, ℕ, zero, suc, ◌+◌, ◌-◌, ◌<◌, ◌≤◌, Bool, true, false, List, [], ◌∷◌, ◌++◌, Option, None, Some, length, map, take, drop, drop-cons, get_or, slice_get, append_assoc, refl, sym, ap, ◌∙◌, subst, add-one, arith}
-use Rattle.std.proofs.lemmas.List.{length-append, length-replicate, length-set, map-append}
+use Rattle.std.proofs.lemmas.List.{append-nil, drop_all, length-append, length-replicate, length-set, map-append}
 use Rattle.sour_syntax.specs.declared.instruction.Instr.{Instr}
 use Rattle.sour_syntax.specs.declared.instruction.Instr.TheVariants.{Var, Drop, Assign, ArrayLength, ArrayList, Store, Print, Read, Branch, Goto, Call, Return, Stop, Assume}
 use Rattle.sour_syntax.specs.declared.literal.VarId.{VarId}
@@ -36,22 +36,10 @@ found_same scope number found within at so_far = record {
   are = rw add-one (with_next scope (drop (suc number) scope) number found false at so_far);
 }
 
--- behind all its variables nothing is left of a scope
-drop_all : (scope : Scope) (number : ℕ) → length scope ≤ number → drop number scope ≡ []
-drop_all [] zero past = refl
-drop_all [] (suc number) past = refl
-drop_all (is_in ∷ scope) zero past = absurd (omega arith)
-drop_all (is_in ∷ scope) (suc number) past = drop_all scope number (omega arith)
-
--- with nothing behind them the variables found are the same
-append_nothing : (found : List VarId) → found ++ [] ≡ found
-append_nothing [] = refl
-append_nothing (x ∷ found) = ap (λ (rest : List VarId). x ∷ rest) (append_nothing found)
-
 -- all are found
 pub found_all : (scope : Scope) (number : ℕ) (found : List VarId) → length scope ≤ number → FoundSoFar scope number found → found ≡ members 0 scope
 found_all scope number found past so_far =
-    sym (append_nothing found) ∙ ap (λ (behind : Scope). found ++ members number behind) (sym (drop_all scope number past)) ∙ so_far.are
+    sym (append-nil found) ∙ ap (λ (behind : Scope). found ++ members number behind) (sym (drop_all number scope past)) ∙ so_far.are
 
 -- one row more
 pub lists_more : (rows : Rows) (count : ℕ) (row : Option Scope) → count < length rows → row ≡ get_or rows count row → map variables_in (take count rows) ++ variables_in row ∷ [] ≡ map variables_in (take (count + 1) rows)

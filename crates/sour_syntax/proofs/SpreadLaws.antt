@@ -2,7 +2,7 @@
 use Rattle.std.proofs.Common.{◌≡◌, ◌⊎◌, inl, inr, ℕ, zero, suc, ◌+◌, ◌<◌, ◌≤◌, true, false, List, [], ◌∷◌, ◌++◌, Option, None, Some, Contains, length, map, drop, replicate, get_or, slice_get, slice_set, refl, sym, ap, ◌∙◌, subst, arith}
 use Rattle.std.specs.List.{AllByRecursion}
 use Rattle.std.proofs.lemmas.Bool.{false≢true, cases_lt}
-use Rattle.std.proofs.lemmas.List.{length-replicate}
+use Rattle.std.proofs.lemmas.List.{length-replicate, length-set, length_push}
 use Rattle.std.proofs.lemmas.Option.{slice_get_within, slice_get_read, same_Some}
 use Rattle.sour_syntax.specs.declared.instruction.Line.{Line}
 use Rattle.sour_syntax.specs.declared.jump.Jump.{Jump}
@@ -12,6 +12,7 @@ use Rattle.sour_syntax.specs.Labels.{LabelsDiffer, label_at, from_label, first_l
 use Rattle.sour_syntax.specs.Jumps.{GoesTo}
 use Rattle.sour_syntax.specs.Scopes.{Scope, scope_after, following_labels, first_scope, IsLineAt, HasScope, IsFine, HasScopes}
 use Rattle.sour_syntax.specs.Spread.{Rows, following, IsAt, HasRow, Puts, GivesOver, GivesEach, Takes, HasPath, AreScopes}
+use Rattle.sour_syntax.proofs.Everywhere.{slice_get-front, slice_get-last}
 use Rattle.sour_syntax.proofs.LabelPlaces.{from_label-first_label-drop, drop-slice_get}
 use Rattle.sour_syntax.proofs.Following.{following_labels_are, same_place, all_behind, each_ahead, drop_first}
 
@@ -54,34 +55,12 @@ set_back (row ∷ rows) (suc place) zero scope kept at = inl at
 set_back (row ∷ rows) (suc place) (suc other) scope kept at =
     elim (set_back rows place other scope kept at) [ inl was ↦ inl was | inr is ↦ inr (ap suc is.0, is.1) ]
 
--- there are as many rows when one of them is set
-length_set : (rows : Rows) (place : ℕ) (row : Option Scope) → length (slice_set rows place row) ≡ length rows
-length_set [] place row = refl
-length_set (first ∷ rows) zero row = refl
-length_set (first ∷ rows) (suc place) row = ap suc (length_set rows place row)
-
--- what stands at an index stands there with one place more behind
-get_front : (xs : List ℕ) (place index found : ℕ) → slice_get xs index ≡ Some found → slice_get (xs ++ place ∷ []) index ≡ Some found
-get_front [] place index found at = cc
-get_front (x ∷ xs) place zero found at = at
-get_front (x ∷ xs) place (suc index) found at = get_front xs place index found at
-
--- a place that is put behind others stands at the index that is their count
-get_last : (xs : List ℕ) (place : ℕ) → slice_get (xs ++ place ∷ []) (length xs) ≡ Some place
-get_last [] place = refl
-get_last (x ∷ xs) place = get_last xs place
-
 -- what stands at an index, with a place put behind, stood there before or is that place
 get_back : (xs : List ℕ) (place index found : ℕ) → slice_get (xs ++ place ∷ []) index ≡ Some found → (slice_get xs index ≡ Some found) ⊎ (found ≡ place)
 get_back [] place zero found at = inr cc
 get_back [] place (suc index) found at = cc
 get_back (x ∷ xs) place zero found at = inl at
 get_back (x ∷ xs) place (suc index) found at = get_back xs place index found at
-
--- a place that is put behind others makes one more of them
-length_push : (xs : List ℕ) (place : ℕ) → length (xs ++ place ∷ []) ≡ length xs + 1
-length_push [] place = refl
-length_push (x ∷ xs) place = let inner = length_push xs place in omega (arith, inner)
 
 -- the line with this label has this scope
 pub record IsMet (body : BodyView) (rows : Rows) (label : List ℕ) (scope : Scope) : Type 0 where
@@ -131,7 +110,7 @@ module _ (body : BodyView) (rows : Rows) (reached : List ℕ) (taken place : ℕ
   put_grows : Grows rows reached (slice_set rows place (Some scope)) (reached ++ place ∷ [])
   put_grows = record {
     keeps = λ other kept at. record { is = set_keeps rows place other scope kept none at.is };
-    places = λ index other at. get_front reached place index other at;
+    places = λ index other at. slice_get-front reached (place ∷ []) index other at;
     counts = omega (arith, gaps_set rows place scope none, length_push reached place);
   }
 
@@ -140,7 +119,7 @@ module _ (body : BodyView) (rows : Rows) (reached : List ℕ) (taken place : ℕ
 
   put_so_far : IsSoFar body rows reached taken → HasPath body place scope → IsSoFar body (slice_set rows place (Some scope)) (reached ++ place ∷ []) taken
   put_so_far so_far path = record {
-    each = length_set rows place (Some scope) ∙ so_far.each;
+    each = length-set rows place (Some scope) ∙ so_far.each;
     within = omega (arith, so_far.within, length_push reached place);
     first = put_grows.keeps 0 (first_scope body) so_far.first;
     paths = λ other kept at. elim (set_back rows place other scope kept at.is) [
@@ -150,12 +129,12 @@ module _ (body : BodyView) (rows : Rows) (reached : List ℕ) (taken place : ℕ
     met = λ other kept at. elim (set_back rows place other scope kept at.is) [
       | inl was ↦ let old = so_far.met other kept (record { is = was }) in record {
         index = old.index;
-        at = get_front reached place old.index other old.at;
+        at = slice_get-front reached (place ∷ []) old.index other old.at;
         done = λ early line there. done_on body rows (slice_set rows place (Some scope)) other kept line put_grows.keeps (old.done early line there);
       }
       | inr is ↦ record {
         index = length reached;
-        at = get_last reached place ∙ ap Some (sym is.0);
+        at = slice_get-last reached place ∙ ap Some (sym is.0);
         done = λ early line there. absurd (omega (arith, so_far.within));
       }
     ];
@@ -355,7 +334,7 @@ start_at : (body : BodyView) (rows : Rows) → slice_get rows 0 ≡ Some None �
 start_at body rows none no_others each =
     let first = first_scope body in
     let here : IsAt (slice_set rows 0 (Some first)) 0 first = record { is = set_here rows 0 first (slice_get_within rows 0 None none) } in record {
-      each = length_set rows 0 (Some first) ∙ each;
+      each = length-set rows 0 (Some first) ∙ each;
       within = omega arith;
       first = here;
       paths = λ place scope at. elim (set_back rows 0 place first scope at.is) [

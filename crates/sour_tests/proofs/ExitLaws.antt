@@ -11,16 +11,9 @@ use Rattle.sour_syntax.specs.Exits.{continuations, exit_values}
 use Rattle.sour_syntax.specs.Labels.{labels_of, IsPlaceOf}
 use Rattle.sour_syntax.specs.Scopes.{Scope, IsInScope, variables_of_expr, variables_of_each}
 use Rattle.sour_syntax.specs.Targets.{named_body, IsNamed}
-use Rattle.sour_syntax.proofs.EachExpression.{all_joined}
+use Rattle.sour_syntax.proofs.Everywhere.{AllByRecursion-append, Contains-slice_get}
 use Rattle.sour_tests.specs.MainLines.{main_start}
 use Rattle.sour_tests.specs.MainExits.{main_target, main_exit, HasStart, IsOfTwo}
-
--- what stands at a place is there
-Contains-slice_get : {X : Type 0} (xs : List X) (place : ℕ) (x : X) → slice_get xs place ≡ Some x → Contains xs x
-Contains-slice_get [] place x found = cc
-Contains-slice_get (first ∷ xs) zero x found = let same : first ≡ x = cc in (0, omega arith, same)
-Contains-slice_get (first ∷ xs) (suc place) x found =
-    let inner : Contains xs x = Contains-slice_get xs place x found in (suc inner.0, omega (arith, inner.1), inner.2)
 
 -- a body that has the line
 pub HasStart-body : (functions : List Function) (body : BodyView) (start : List ℕ) (place count : ℕ) → Some body ≡ named_body functions [] main_target.code → start ≡ main_start → IsPlaceOf body.lines start place
@@ -76,7 +69,7 @@ values-main_exit scope first second third is one two three =
     let P : VarId → Type 0 = λ x. x.0 < 2 in
     let own : List VarId = variables_of_each (exit_values (main_exit first second third)) in
     let all : AllByRecursion P own =
-    all_joined P (variables_of_expr first) _ one (all_joined P (variables_of_expr second) _ two (all_joined P (variables_of_expr third) [] three (tt {0}))) in
+    AllByRecursion-append P (variables_of_expr first) _ one (AllByRecursion-append P (variables_of_expr second) _ two (AllByRecursion-append P (variables_of_expr third) [] three (tt {0}))) in
     let Each : Scope → Type 0 = λ scope. AllByRecursion (IsInScope scope) own in
     subst Each (sym is) (all_in_scope own all)
 

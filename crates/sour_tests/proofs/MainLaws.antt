@@ -13,9 +13,9 @@ use Rattle.sour_syntax.specs.Limits.{IsShortInstr}
 use Rattle.sour_syntax.specs.Literals.{IsLiteral, literals_of}
 use Rattle.sour_syntax.specs.Program.{NamesDiffer, IsPlainName, IsVersion, IsProgram}
 use Rattle.sour_syntax.specs.Targets.{version_body, text_body, IsNamed, Lands, HasExits}
+use Rattle.sour_syntax.proofs.Everywhere.{AllByRecursion-weaker}
 use Rattle.sour_syntax.proofs.NoExits.{All-from_label}
 use Rattle.sour_tests.specs.MainLines.{main_variables, main_start, LeadsBack, IsMainLine}
-use Rattle.sour_machine.proofs.FrameLaws.{All-weaker}
 
 -- a small letter is a name
 pub letter-plain : (byte : ℕ) → 97 ≤ byte → byte ≤ 122 → IsPlainName (byte ∷ [])
@@ -59,10 +59,10 @@ module _ (function : Function) (version : Version) (versions : function.versions
 
   exits_back : AllByRecursion IsMainLine version.body.lines → HasExits (function ∷ []) [] version.body
   exits_back each = record {
-    named = All-weaker IsMainLine (λ line. AllByRecursion (IsNamed (function ∷ []) []) (continuations_of line.instr)) version.body.lines
-        (λ line is. All-weaker LeadsBack (IsNamed (function ∷ []) []) (continuations_of line.instr) named_back is.back) each;
+    named = AllByRecursion-weaker IsMainLine (λ line. AllByRecursion (IsNamed (function ∷ []) []) (continuations_of line.instr))
+        (λ line is. AllByRecursion-weaker LeadsBack (IsNamed (function ∷ []) []) named_back (continuations_of line.instr) is.back) version.body.lines each;
     land = λ count label scope line rest path at.
-        All-weaker LeadsBack (Lands (function ∷ []) []) (continuations_of line.instr) lands_back (All-from_label IsMainLine label version.body.lines line rest each at.stands).back;
+        AllByRecursion-weaker LeadsBack (Lands (function ∷ []) []) lands_back (continuations_of line.instr) (All-from_label IsMainLine label version.body.lines line rest each at.stands).back;
   }
 
   -- such a program is a checked one
@@ -82,12 +82,12 @@ module _ (function : Function) (version : Version) (versions : function.versions
         variables = refl;
         differ = subst Differ (sym variables) ((y_other, tt), (tt, tt));
         names = subst Plain (sym variables) (x, (y, tt));
-        labels = All-weaker IsMainLine (λ line. IsPlainName line.label) lines (λ line is. is.label) each;
-        literals = All-weaker IsMainLine (λ line. AllByRecursion (IsLiteral 1) (literals_of line.instr)) lines (λ line is. is.literals) each;
+        labels = AllByRecursion-weaker IsMainLine (λ line. IsPlainName line.label) (λ line is. is.label) lines each;
+        literals = AllByRecursion-weaker IsMainLine (λ line. AllByRecursion (IsLiteral 1) (literals_of line.instr)) (λ line is. is.literals) lines each;
         exits = exits_back each;
         lines = few;
         few_variables = omega (arith, ap length variables);
-        instrs = All-weaker IsMainLine (λ line. IsShortInstr line.instr) lines (λ line is. is.short) each;
+        instrs = AllByRecursion-weaker IsMainLine (λ line. IsShortInstr line.instr) (λ line is. is.short) lines each;
       } in
       let Versions : List Version → Type 0 = AllByRecursion (IsVersion (function ∷ []) 0 []) in
       let Names : List Version → Type 0 = λ versions. NamesDiffer (map (λ (v : Version). v.name) versions) in

@@ -6,7 +6,7 @@ use Rattle.sour_syntax.specs.declared.instruction.Instr.TheVariants.{Assume}
 use Rattle.sour_syntax.specs.Exits.{exit_values}
 use Rattle.sour_syntax.specs.Scopes.{IsInScope, needed, variables_of_each}
 use Rattle.sour_syntax.specs.Spread.{following}
-use Rattle.sour_syntax.proofs.EachExpression.{all_first}
+use Rattle.sour_syntax.proofs.Everywhere.{AllByRecursion-parts}
 use Rattle.sour_semantics.specs.Validity.{scope_of}
 use Rattle.sour_machine.specs.Instruction.{ComesTo, jump_at}
 use Rattle.sour_machine.specs.Scope.{HasValuesOfEach}
@@ -41,4 +41,4 @@ stays-requires-clause-values c =
     let env = c.args.moment.now.frame.env in
     let Needs : Instr → Type 0 = λ instr. AllByRecursion (IsInScope (scope_of env)) (needed instr) in
     let Has : List Expr → Type 0 = HasValuesOfEach env in
-    subst Has (sym c.as_slice-in-Assume.ensures) (all_first (IsInScope (scope_of env)) (variables_of_each c.in-Assume.predicates) (variables_of_each (exit_values c.in-Assume.field-1)) (subst Needs c.in-Assume.is c.requires.ready.needs))
+    subst Has (sym c.as_slice-in-Assume.ensures) (AllByRecursion-parts (IsInScope (scope_of env)) (variables_of_each c.in-Assume.predicates) (variables_of_each (exit_values c.in-Assume.field-1)) (subst Needs c.in-Assume.is c.requires.ready.needs)).0

@@ -3,11 +3,12 @@ use Rattle.sour_syntax.specs.declared.instruction.Instr.TheVariants.{Var, Assign
 use Rattle.sour_semantics.specs.State.{Environment}
 use Rattle.sour_semantics.specs.Step.{text_choice}
 use Rattle.sour_syntax.specs.Labels.{label_at}
+use Rattle.sour_syntax.proofs.NamedScopes.{set-same}
 use Rattle.sour_machine.specs.Frame.{frame_at, frame_lines}
 use Rattle.sour_machine.specs.Moment.{state_at}
 use Rattle.sour_semantics.specs.Validity.{scope_of}
 use Rattle.sour_machine.proofs.Instructions.{act-set, act-set-trap}
-use Rattle.sour_machine.proofs.Scopes.{set-same, scope_of-set, row-set, ComesTo-going}
+use Rattle.sour_machine.proofs.Scopes.{scope_of-set, row-set, ComesTo-going}
 use Rattle.sour_machine.proofs.act.set.Goals as goal
 
 pub returns-in-Ok-clause-acts : goal.returns-in-Ok-clause-acts

@@ -7,7 +7,8 @@ use Rattle.sour_syntax.specs.declared.trap.Trap.{Trap}
 use Rattle.sour_syntax.specs.Exits.{extra_continuation, bound_values}
 use Rattle.sour_syntax.specs.Scopes.{IsInScope}
 use Rattle.sour_syntax.specs.Targets.{IsNamed, Lands}
-use Rattle.sour_syntax.proofs.EachExpression.{extra_at, all_joined}
+use Rattle.sour_syntax.proofs.EachExpression.{extra_at}
+use Rattle.sour_syntax.proofs.Everywhere.{AllByRecursion-append}
 use Rattle.sour_semantics.specs.State as state
 use Rattle.sour_semantics.specs.Evaluation.{eval_each}
 use Rattle.sour_semantics.specs.Step.{landed, landed_frames}
@@ -69,5 +70,5 @@ loop-number-preserved c =
     let Each : List Waiting → Type 0 = AllByRecursion (StandsWaiting program) in
     record {
       so_far = subst So_far (sym more) (AreLanded-waiting program (frame_at program from None) heap extras whole made place item waiting c.loop-number-test.true (subst Made c.index-extras-number.is own) c.loop-number.invariant.so_far);
-      stand = subst Each (sym more) (all_joined (StandsWaiting program) made (waiting ∷ []) c.loop-number.invariant.stand (StandsWaiting-StandsFor program frame x stands_for, tt {0}));
+      stand = subst Each (sym more) (AllByRecursion-append (StandsWaiting program) made (waiting ∷ []) c.loop-number.invariant.stand (StandsWaiting-StandsFor program frame x stands_for, tt {0}));
     }

@@ -2,7 +2,7 @@ use Rattle.std.proofs.Common.{[], refl, sym, subst, arith}
 use Rattle.std.specs.List.{AllByRecursion}
 use Rattle.sour_syntax.specs.declared.program.Version.{Version}
 use Rattle.sour_syntax.specs.Targets.{HasExits}
-use Rattle.sour_syntax.proofs.EachExpression.{all_within}
+use Rattle.sour_syntax.proofs.Everywhere.{all_within}
 use Rattle.sour_scope.proofs.ListLaws.{all_next, all_taken}
 use Rattle.sour_scope.proofs.ExitLaws.{OfFunction, HaveExits-all, all-HaveExits}
 use Rattle.sour_scope.proofs.exits.exits_are_right.Goals as goal

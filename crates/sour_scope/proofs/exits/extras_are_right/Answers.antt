@@ -2,7 +2,7 @@ use Rattle.std.proofs.Common.{List, Some, refl, sym, subst, arith}
 use Rattle.sour_syntax.specs.declared.exit.Bind.{Bind}
 use Rattle.sour_syntax.specs.declared.exit.Extra.{Extra}
 use Rattle.sour_syntax.specs.Exits.{extra_continuation}
-use Rattle.sour_syntax.proofs.EachExpression.{all_within}
+use Rattle.sour_syntax.proofs.Everywhere.{all_within}
 use Rattle.sour_scope.specs.Landings.{IsRight}
 use Rattle.sour_scope.proofs.ListLaws.{all_taken}
 use Rattle.sour_scope.proofs.ExitLaws.{all_given, all_giving}

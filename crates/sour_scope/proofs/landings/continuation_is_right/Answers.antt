@@ -1,7 +1,7 @@
 use Rattle.std.proofs.Common.{length, refl, ap, ◌∙◌}
 use Rattle.sour_syntax.proofs.Following.{IsPlaceOf-within}
+use Rattle.sour_syntax.proofs.NamedScopes.{length-scope_of_names}
 use Rattle.sour_syntax.specs.Exits.{Continuation, bound_names}
-use Rattle.sour_scope.proofs.MaskLaws.{length-scope_of_names}
 use Rattle.sour_scope.proofs.LandingLaws.{right_where_unreached, right_where_reached}
 use Rattle.sour_scope.proofs.landings.continuation_is_right.Goals as goal
 

@@ -1,5 +1,5 @@
 use Rattle.std.proofs.Common.{refl, arith}
-use Rattle.sour_syntax.proofs.EachExpression.{all_within}
+use Rattle.sour_syntax.proofs.Everywhere.{all_within}
 use Rattle.sour_scope.proofs.ListLaws.{all_taken}
 use Rattle.sour_scope.proofs.LiteralLaws.{OfKnown, known_joined, known_split}
 use Rattle.sour_scope.proofs.literals.expressions_are_known.Goals as goal

@@ -1,7 +1,7 @@
 use Rattle.std.proofs.Common.{List, sym, refl, subst, arith}
 use Rattle.sour_syntax.specs.declared.exit.Bind.{Bind}
 use Rattle.sour_syntax.specs.Exits.{bound_values}
-use Rattle.sour_syntax.proofs.EachExpression.{all_within}
+use Rattle.sour_syntax.proofs.Everywhere.{all_within}
 use Rattle.sour_scope.proofs.ListLaws.{all_taken}
 use Rattle.sour_scope.proofs.LiteralLaws.{OfEach, OfExtra, extras_joined, extras_split}
 use Rattle.sour_scope.proofs.literals.extras_are_known.Goals as goal

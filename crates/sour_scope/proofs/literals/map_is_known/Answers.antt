@@ -1,5 +1,5 @@
 use Rattle.std.proofs.Common.{refl, arith}
-use Rattle.sour_syntax.proofs.EachExpression.{all_within}
+use Rattle.sour_syntax.proofs.Everywhere.{all_within}
 use Rattle.sour_scope.proofs.ListLaws.{all_taken}
 use Rattle.sour_scope.proofs.LiteralLaws.{OfBind, binds_joined, binds_split}
 use Rattle.sour_scope.proofs.literals.map_is_known.Goals as goal

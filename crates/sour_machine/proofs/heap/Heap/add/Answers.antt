@@ -1,6 +1,6 @@
 use Rattle.std.proofs.Common.{◌≤◌, ◌-◌, ◌∙◌, length, ap, arith}
 use Rattle.sour_semantics.specs.Step.{cell_limit, count_heap}
-use Rattle.sour_machine.proofs.HeapLaws.{count_heap-push}
+use Rattle.sour_semantics.proofs.Heaps.{count_heap-push}
 use Rattle.sour_machine.proofs.heap.Heap.add.Goals as goal
 
 pub invariant_of-self-2 : goal.invariant_of-self-2

@@ -3,7 +3,8 @@ use Rattle.std.specs.List.{slice_get}
 use Rattle.std.proofs.lemmas.Option.{slice_get_read}
 use Rattle.std.proofs.lemmas.List.{length-set}
 use Rattle.sour_semantics.specs.State.{Heap}
-use Rattle.sour_machine.proofs.HeapLaws.{count_heap-set, written-array}
+use Rattle.sour_semantics.proofs.Heaps.{count_heap-set}
+use Rattle.sour_machine.proofs.HeapLaws.{written-array}
 use Rattle.sour_machine.proofs.heap.Heap.write.Goals as goal
 
 pub invariant_of-self : goal.invariant_of-self
