@@ -12,7 +12,8 @@ use Rattle.sour_reader.specs.Instruction.{SpellsInstr}
 use Rattle.sour_reader.specs.Parts.{BeginsNone}
 use Rattle.sour_reader.proofs.Found.{Finds, finds_none, MadeOfTwo, MadeOfThree}
 use Rattle.sour_reader.proofs.Expressions.{IsNameOf, OnlySplit, NoSplit}
-use Rattle.sour_reader.proofs.Instructions.{first_same, behind_first, differs, reserved}
+use Rattle.sour_reader.proofs.Lists.{first_same, behind_first}
+use Rattle.sour_reader.proofs.Instructions.{differs, reserved}
 
 -- a name and elements
 record ListParts (instr : RawInstr) (tokens : List (List ℕ)) : Type 0 where

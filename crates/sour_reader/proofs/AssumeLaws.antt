@@ -8,12 +8,14 @@ use Rattle.sour_reader.specs.declared.raw.RawInstr.TheVariants.{Var, Drop, Assig
 use Rattle.sour_reader.specs.Expression.{SpellsExpr, SpellsEach}
 use Rattle.sour_reader.specs.Exit.{SpellsExit}
 use Rattle.sour_reader.specs.Instruction.{SpellsInstr}
-use Rattle.sour_reader.specs.Parts.{Lacks}
+use Rattle.sour_reader.specs.Separators.{HasNone}
 use Rattle.sour_reader.proofs.Found.{Finds, finds_none, MadeOfTwo}
 use Rattle.sour_reader.proofs.Operands.{apart}
-use Rattle.sour_reader.proofs.Instructions.{behind_first, differs, reserved}
+use Rattle.sour_reader.proofs.Lists.{behind_first}
+use Rattle.sour_reader.proofs.Instructions.{differs, reserved}
 use Rattle.sour_reader.proofs.Tokens.{no_else_expr}
-use Rattle.sour_reader.proofs.Commas.{first_own, has_own, lacks_listed}
+use Rattle.sour_reader.proofs.Separated.{first_sign, has_sign}
+use Rattle.sour_reader.proofs.Commas.{lacks_listed}
 
 -- what is assumed, and the exit
 record AssumeParts (instr : RawInstr) (tokens : List (List ℕ)) : Type 0 where
@@ -48,26 +50,26 @@ assumes tokens = to
         record { predicates = predicates; exit = exit; each = each; back = back; is = refl; whole = behind_first is; first = first; second = second }
 
 -- none of the predicates has an `else`
-no_else_each : (es : List RawExpr) (tokens : List (List ℕ)) → SpellsEach es tokens → Lacks (codes "else") tokens
+no_else_each : (es : List RawExpr) (tokens : List (List ℕ)) → SpellsEach es tokens → HasNone (codes "else") tokens
 no_else_each es tokens spelled = lacks_listed SpellsExpr (codes "else") no_else_expr (λ same. apart (codes ",") (codes "else") same refl) es tokens spelled
 
 -- the predicates and the exit, which the first `else` parts
-pub assume_parts : (tokens front behind : List (List ℕ)) → tokens ≡ front ++ codes "else" ∷ behind → Lacks (codes "else") front
+pub assume_parts : (tokens front behind : List (List ℕ)) → tokens ≡ front ++ codes "else" ∷ behind → HasNone (codes "else") front
     → MadeOfTwo (List RawExpr) RawExit RawInstr Assume (λ it. SpellsEach it front) (λ it. SpellsExit it behind) (λ instr. SpellsInstr instr (codes "assume" ∷ tokens))
 assume_parts tokens front behind whole lacks = record { to = to; from = from }
   where
     to : (instr : RawInstr) → SpellsInstr instr (codes "assume" ∷ tokens) → (predicates : List RawExpr) × (exit : RawExit) × (instr ≡ Assume predicates exit) × SpellsEach predicates front × SpellsExit exit behind
     to instr spelled =
         let it = assumes tokens instr spelled in
-        let same = first_own (codes "else") it.each it.back front behind (no_else_each it.predicates it.each it.first) lacks (sym it.whole ∙ whole) in
+        let same = first_sign (codes "else") it.each it.back front behind (no_else_each it.predicates it.each it.first) lacks (sym it.whole ∙ whole) in
         (it.predicates, it.exit, it.is, subst (SpellsEach it.predicates) same.0 it.first, subst (SpellsExit it.exit) same.1 it.second)
 
     from : (predicates : List RawExpr) (exit : RawExit) → SpellsEach predicates front → SpellsExit exit behind → SpellsInstr (Assume predicates exit) (codes "assume" ∷ tokens)
     from predicates exit first second = (front, behind, ap (λ it. codes "assume" ∷ it) whole, first, second)
 
 -- no `else`
-pub no_else : (tokens : List (List ℕ)) → Lacks (codes "else") tokens → Finds (λ instr. SpellsInstr instr (codes "assume" ∷ tokens)) None
+pub no_else : (tokens : List (List ℕ)) → HasNone (codes "else") tokens → Finds (λ instr. SpellsInstr instr (codes "assume" ∷ tokens)) None
 no_else tokens lacks = finds_none (λ instr. SpellsInstr instr (codes "assume" ∷ tokens)) never
   where
     never : (instr : RawInstr) → SpellsInstr instr (codes "assume" ∷ tokens) → ⊥
-    never instr spelled = let it = assumes tokens instr spelled in has_own (codes "else") it.each it.back (subst (Lacks (codes "else")) it.whole lacks)
+    never instr spelled = let it = assumes tokens instr spelled in has_sign (codes "else") it.each it.back (subst (HasNone (codes "else")) it.whole lacks)

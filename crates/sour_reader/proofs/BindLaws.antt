@@ -6,7 +6,8 @@ use Rattle.sour_reader.specs.declared.raw.RawExpr.{RawExpr}
 use Rattle.sour_reader.specs.declared.raw.RawBind.{RawBind}
 use Rattle.sour_reader.specs.Expression.{SpellsExpr}
 use Rattle.sour_reader.specs.Exit.{SpellsBind}
-use Rattle.sour_reader.specs.Parts.{Lacks, SpellsSetting}
+use Rattle.sour_reader.specs.Parts.{SpellsSetting}
+use Rattle.sour_reader.specs.Separators.{HasNone}
 use Rattle.sour_reader.proofs.Found.{Finds, finds_made}
 use Rattle.sour_reader.proofs.Operands.{apart}
 use Rattle.sour_reader.proofs.Tokens.{plain_name, no_comma_expr}
@@ -20,9 +21,9 @@ no_commas_expr = record { none = no_comma_expr }
 pub no_commas_bind : HasNoCommas RawBind SpellsBind
 no_commas_bind = record { none = none_bind }
   where
-    none_bind : (bind : RawBind) (tokens : List (List ℕ)) → SpellsBind bind tokens → Lacks (codes ",") tokens
+    none_bind : (bind : RawBind) (tokens : List (List ℕ)) → SpellsBind bind tokens → HasNone (codes ",") tokens
     none_bind bind tokens (value, is, named, spelled) =
-        subst (Lacks (codes ",")) (sym is)
+        subst (HasNone (codes ",")) (sym is)
         ((plain_name bind.name named).comma, ((λ same. apart (codes "=") (codes ",") same refl), no_comma_expr bind.value value spelled))
 
 -- it has a token

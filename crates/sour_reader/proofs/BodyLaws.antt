@@ -13,13 +13,10 @@ use Rattle.sour_reader.specs.Instruction.{SpellsInstr, SpellsLabelled}
 use Rattle.sour_reader.specs.Job.{version_heading, function_end}
 use Rattle.sour_reader.specs.Ahead.{AheadView, AreLeft, ReadsAs, ReadsAsNone, OneLine, EachUpTo}
 use Rattle.sour_reader.specs.Front.{IsLine, BeginsVersionOrEnd, NextIs, EndVersion, AreShort, HasBody, IsVersionHeading, HasVersion, EndFunction, AreSome}
-use Rattle.sour_reader.proofs.Readings.{next_is, left_some, Passes, GoesOn, ReadSoFar, line_reads, reads_with, reads_none_with, reads_both, so_far_none, so_far_more, so_far_end, so_far_nowhere, so_far_longer, so_far_front}
+use Rattle.sour_reader.proofs.Readings.{Lines, next_is, left_some, Passes, GoesOn, ReadSoFar, line_reads, reads_with, reads_none_with, reads_both, so_far_none, so_far_more, so_far_end, so_far_nowhere, so_far_longer, so_far_front}
+use Rattle.sour_reader.proofs.Lists.{first_same}
 use Rattle.sour_reader.proofs.Operands.{apart, no_reserved}
 use Rattle.sour_reader.proofs.MentionLaws.{with_names_length, with_lines_append, with_lines_length}
-
--- lines, each by its tokens, and each token by its bytes
-abbrev Lines : Type 0
-Lines = List (List (List ℕ))
 
 -- the one thing that the tokens of the next line spell
 pub only_one : {X : Type 0} (T : X → List (List ℕ) → Type 0) (tokens next : List (List ℕ)) (found : Option X) (x : X) → tokens ≡ next → found ≡ Some x → ((other : X) → T other tokens ↔ (found ≡ Some other)) → (other : X) → T other next ↔ (other ≡ x)
@@ -53,10 +50,6 @@ pub next_goes_on : (B : List (List ℕ) → Type 0) (ahead : AheadView) → (B a
 next_goes_on B ahead other [] left ended = ended
 next_goes_on B ahead other (line ∷ others) left ended = other (subst B (next_is ahead line others left) ended)
 
--- the first of two lists that are the same
-pub first_is : (token word : List ℕ) (tokens others : List (List ℕ)) → token ∷ tokens ≡ word ∷ others → token ≡ word
-first_is token word tokens others is = cc
-
 -- a word that is neither of the two is none of them
 other_word : {word : List ℕ} (own : List ℕ) → (word ≡ codes "ver") ⊎ (word ≡ codes "end") → word ≡ own → bytes_eq own (codes "ver") ≡ false → bytes_eq own (codes "end") ≡ false → ⊥
 other_word own (inl is) same no_ver no_end = apart own (codes "ver") (sym same ∙ is) no_ver
@@ -64,20 +57,20 @@ other_word own (inr is) same no_ver no_end = apart own (codes "end") (sym same �
 
 -- no instruction begins with `ver` or `end`
 no_instr : (instr : RawInstr) (word : List ℕ) (tokens : List (List ℕ)) → (word ≡ codes "ver") ⊎ (word ≡ codes "end") → is_reserved word ≡ true → SpellsInstr instr (word ∷ tokens) → ⊥
-no_instr (Var x e) word tokens is known (value, whole, name, spelled) = other_word (codes "var") is (first_is _ _ _ _ whole) refl refl
-no_instr (Drop x) word tokens is known (whole, name) = other_word (codes "drop") is (first_is _ _ _ _ whole) refl refl
-no_instr (Assign x e) word tokens is known (value, whole, name, spelled) = no_reserved x word (sym (first_is _ _ _ _ whole)) known name
-no_instr (ArrayLength x e) word tokens is known (count, whole, name, spelled) = other_word (codes "array") is (first_is _ _ _ _ whole) refl refl
-no_instr (ArrayList x es) word tokens is known (cells, whole, name, spelled) = other_word (codes "array") is (first_is _ _ _ _ whole) refl refl
-no_instr (Store x index e) word tokens is known (place, value, whole, name, first, second) = no_reserved x word (sym (first_is _ _ _ _ whole)) known name
-no_instr (Print e) word tokens is known (value, whole, spelled) = other_word (codes "print") is (first_is _ _ _ _ whole) refl refl
-no_instr (Read x) word tokens is known (whole, name) = other_word (codes "read") is (first_is _ _ _ _ whole) refl refl
-no_instr (Branch e a b) word tokens is known (value, whole, spelled, first, second) = other_word (codes "branch") is (first_is _ _ _ _ whole) refl refl
-no_instr (Goto a) word tokens is known (whole, name) = other_word (codes "goto") is (first_is _ _ _ _ whole) refl refl
-no_instr (Call x callee es) word tokens is known (function, arguments, whole, name, first, second) = other_word (codes "call") is (first_is _ _ _ _ whole) refl refl
-no_instr (Return e) word tokens is known (value, whole, spelled) = other_word (codes "return") is (first_is _ _ _ _ whole) refl refl
-no_instr Stop word tokens is known whole = other_word (codes "stop") is (first_is _ _ _ _ whole) refl refl
-no_instr (Assume predicates exit) word tokens is known (each, back, whole, first, second) = other_word (codes "assume") is (first_is _ _ _ _ whole) refl refl
+no_instr (Var x e) word tokens is known (value, whole, name, spelled) = other_word (codes "var") is (first_same whole) refl refl
+no_instr (Drop x) word tokens is known (whole, name) = other_word (codes "drop") is (first_same whole) refl refl
+no_instr (Assign x e) word tokens is known (value, whole, name, spelled) = no_reserved x word (sym (first_same whole)) known name
+no_instr (ArrayLength x e) word tokens is known (count, whole, name, spelled) = other_word (codes "array") is (first_same whole) refl refl
+no_instr (ArrayList x es) word tokens is known (cells, whole, name, spelled) = other_word (codes "array") is (first_same whole) refl refl
+no_instr (Store x index e) word tokens is known (place, value, whole, name, first, second) = no_reserved x word (sym (first_same whole)) known name
+no_instr (Print e) word tokens is known (value, whole, spelled) = other_word (codes "print") is (first_same whole) refl refl
+no_instr (Read x) word tokens is known (whole, name) = other_word (codes "read") is (first_same whole) refl refl
+no_instr (Branch e a b) word tokens is known (value, whole, spelled, first, second) = other_word (codes "branch") is (first_same whole) refl refl
+no_instr (Goto a) word tokens is known (whole, name) = other_word (codes "goto") is (first_same whole) refl refl
+no_instr (Call x callee es) word tokens is known (function, arguments, whole, name, first, second) = other_word (codes "call") is (first_same whole) refl refl
+no_instr (Return e) word tokens is known (value, whole, spelled) = other_word (codes "return") is (first_same whole) refl refl
+no_instr Stop word tokens is known whole = other_word (codes "stop") is (first_same whole) refl refl
+no_instr (Assume predicates exit) word tokens is known (each, back, whole, first, second) = other_word (codes "assume") is (first_same whole) refl refl
 
 -- `ver` and `end` are reserved words
 both_reserved : (word : List ℕ) → (word ≡ codes "ver") ⊎ (word ≡ codes "end") → is_reserved word ≡ true
@@ -88,7 +81,7 @@ both_reserved word (inr is) = ap is_reserved is
 no_labelled : (label : Option (List ℕ)) (instr : RawInstr) (tokens : List (List ℕ)) → BeginsVersionOrEnd tokens → SpellsLabelled label instr tokens → ⊥
 no_labelled label instr [] is spelled = is
 no_labelled None instr (word ∷ tokens) is spelled = no_instr instr word tokens is (both_reserved word is) spelled
-no_labelled (Some label) instr (word ∷ tokens) is (rest, whole, name, spelled) = no_reserved label word (sym (first_is _ _ _ _ whole)) (both_reserved word is) name
+no_labelled (Some label) instr (word ∷ tokens) is (rest, whole, name, spelled) = no_reserved label word (sym (first_same whole)) (both_reserved word is) name
 
 -- no line of a version does
 pub no_line_at_end : (line : RawLine) (lines after : Lines) → EndVersion lines → OneLine IsLine line lines after → ⊥
@@ -187,4 +180,4 @@ pub no_version_at_end : (parameters : List (List ℕ)) (version : RawVersion) (l
 no_version_at_end parameters version [] after ended (rest, (tokens, is, heading), body) = ended
 no_version_at_end parameters version (first ∷ lines) after ended (rest, (tokens, is, heading), body) =
     let whole : version_heading version.name ≡ function_end = let same : first ≡ tokens = cc in sym heading.0 ∙ sym same ∙ ended in
-    apart (codes "ver") (codes "end") (first_is _ _ _ _ whole) refl
+    apart (codes "ver") (codes "end") (first_same whole) refl

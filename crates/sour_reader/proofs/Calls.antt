@@ -11,7 +11,8 @@ use Rattle.sour_reader.specs.Expression.{SpellsSimple, SpellsEach}
 use Rattle.sour_reader.specs.Instruction.{SpellsInstr}
 use Rattle.sour_reader.proofs.Found.{MadeOfThree}
 use Rattle.sour_reader.proofs.Expressions.{IsNameOf, OnlySplit}
-use Rattle.sour_reader.proofs.Instructions.{first_same, behind_first, differs, reserved}
+use Rattle.sour_reader.proofs.Lists.{first_same, behind_first}
+use Rattle.sour_reader.proofs.Instructions.{differs, reserved}
 
 -- arguments in parentheses
 abbrev pub in_parentheses : List (List ℕ) → List (List ℕ)

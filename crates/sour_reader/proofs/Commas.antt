@@ -1,52 +1,37 @@
 -- Lists that are split at their commas.
-use Rattle.std.proofs.Common.{◌≡◌, ◌↔◌, add-one, ℕ, zero, suc, ◌+◌, ◌<◌, ◌≤◌, length, map, take, drop, get_or, arith, true, false, List, [], ◌∷◌, ◌++◌, Option, Some, None, refl, sym, ap, ◌∙◌, subst}
+use Rattle.std.proofs.Common.{◌≡◌, ◌↔◌, ℕ, length, map, arith, true, false, List, [], ◌∷◌, ◌++◌, Option, Some, None, refl, sym, ap, subst}
 use Rattle.std.specs.Prelude.{codes, ◌==◌}
 use Rattle.std.proofs.lemmas.Bool.Decides.{nat_tests}
 use Rattle.sour_syntax.proofs.Everywhere.{AllByRecursion-append}
 use Rattle.sour_reader.specs.Expression.{SpellsListed}
-use Rattle.sour_reader.specs.Parts.{Lacks, SpellsSome}
+use Rattle.sour_reader.specs.Parts.{SpellsSome}
+use Rattle.sour_reader.specs.Separators.{HasNone}
 use Rattle.sour_reader.proofs.Found.{Finds, finds_none, finds_some, finds_as, none_found, found_holds, found_only}
-use Rattle.sour_reader.proofs.ValueLaws.{take_all}
+use Rattle.sour_reader.proofs.Separated.{first_sign, has_sign}
 use Rattle.sour_reader.proofs.Prefixes.{ReadsOn, reads_on_more, reads_on_end}
 
--- there is one first token of its kind
-pub first_own : (own : List ℕ) (front back other more : List (List ℕ)) → Lacks own front → Lacks own other → front ++ own ∷ back ≡ other ++ own ∷ more → (front ≡ other) × (back ≡ more)
-first_own own [] back [] more none free is = (refl, (cc))
-first_own own [] back (token ∷ other) more none free is = let same : token ≡ own = cc in absurd (free.0 same)
-first_own own (first ∷ front) back [] more none free is = let same : first ≡ own = cc in absurd (none.0 same)
-first_own own (first ∷ front) back (token ∷ other) more none free is =
-    let head : first ≡ token = cc in
-    let tail : front ++ own ∷ back ≡ other ++ own ∷ more = cc in
-    let parts = first_own own front back other more none.1 free.1 tail in
-    (ap (λ it. it ∷ front) head ∙ ap (λ it. token ∷ it) parts.0, parts.1)
-
--- a token between others is one of them
-pub has_own : (own : List ℕ) (front back : List (List ℕ)) → Lacks own (front ++ own ∷ back) → ⊥
-has_own own [] back none = none.0 refl
-has_own own (token ∷ front) back none = has_own own front back none.1
-
 -- what each lacks, and is no comma, all of them lack
-pub lacks_listed : {X : Type 0} (S : X → List (List ℕ) → Type 0) (own : List ℕ) → ((x : X) (tokens : List (List ℕ)) → S x tokens → Lacks own tokens) → ¬ (codes "," ≡ own)
-    → (xs : List X) (tokens : List (List ℕ)) → SpellsListed S xs tokens → Lacks own tokens
-lacks_listed S own each other [] tokens is = subst (Lacks own) (sym is) tt
+pub lacks_listed : {X : Type 0} (S : X → List (List ℕ) → Type 0) (own : List ℕ) → ((x : X) (tokens : List (List ℕ)) → S x tokens → HasNone own tokens) → ¬ (codes "," ≡ own)
+    → (xs : List X) (tokens : List (List ℕ)) → SpellsListed S xs tokens → HasNone own tokens
+lacks_listed S own each other [] tokens is = subst (HasNone own) (sym is) tt
 lacks_listed S own each other (x ∷ []) tokens spelled = each x tokens spelled
 lacks_listed S own each other (x ∷ y ∷ xs) tokens (first, rest, is, spelled, more) =
-    subst (Lacks own) (sym is) (AllByRecursion-append (λ token. ¬ (token ≡ own)) first (codes "," ∷ rest) (each x first spelled) (other, lacks_listed S own each other (y ∷ xs) rest more))
+    subst (HasNone own) (sym is) (AllByRecursion-append (λ token. ¬ (token ≡ own)) first (codes "," ∷ rest) (each x first spelled) (other, lacks_listed S own each other (y ∷ xs) rest more))
 
 -- in what S says is spelled there are no commas
 pub record HasNoCommas (X : Type 0) (S : X → List (List ℕ) → Type 0) : Type 0 where
-  pub none : (x : X) (tokens : List (List ℕ)) → S x tokens → Lacks (codes ",") tokens
+  pub none : (x : X) (tokens : List (List ℕ)) → S x tokens → HasNone (codes ",") tokens
 
 -- one and a comma, and then the others
-pub comma_next : {X : Type 0} (S : X → List (List ℕ) → Type 0) → HasNoCommas X S → (front back : List (List ℕ)) (e : X) → Lacks (codes ",") front → Finds (λ it. S it front) (Some e)
+pub comma_next : {X : Type 0} (S : X → List (List ℕ) → Type 0) → HasNoCommas X S → (front back : List (List ℕ)) (e : X) → HasNone (codes ",") front → Finds (λ it. S it front) (Some e)
     → ReadsOn (λ es. SpellsSome S es (front ++ codes "," ∷ back)) (e ∷ []) (λ es. SpellsSome S es back)
 comma_next {X} S bare front back e none finds es = (to es, from)
   where
     to : (all : List X) → SpellsSome S all (front ++ codes "," ∷ back) → (others : List X) × (all ≡ e ∷ others) × SpellsSome S others back
     to [] spelled = absurd spelled
-    to (a ∷ []) spelled = absurd (has_own (codes ",") front back (bare.none a (front ++ codes "," ∷ back) spelled))
+    to (a ∷ []) spelled = absurd (has_sign (codes ",") front back (bare.none a (front ++ codes "," ∷ back) spelled))
     to (a ∷ b ∷ others) (first, rest, is, spelled, more) =
-        let same = first_own (codes ",") first rest front back (bare.none a first spelled) none (sym is) in
+        let same = first_sign (codes ",") first rest front back (bare.none a first spelled) none (sym is) in
         let own = found_only (λ it. S it front) e a finds (subst (S a) same.0 spelled) in
         (b ∷ others, ap (λ it. it ∷ b ∷ others) own, subst (SpellsListed S (b ∷ others)) same.1 more)
 
@@ -58,21 +43,21 @@ comma_next {X} S bare front back e none finds es = (to es, from)
     from (others, is, spelled) = subst (λ it. SpellsSome S it (front ++ codes "," ∷ back)) (sym is) (made others spelled)
 
 -- none before the comma
-no_comma_next : {X : Type 0} (S : X → List (List ℕ) → Type 0) → HasNoCommas X S → (front back : List (List ℕ)) → Lacks (codes ",") front → Finds (λ it. S it front) None → (es : List X) → SpellsSome S es (front ++ codes "," ∷ back) → ⊥
+no_comma_next : {X : Type 0} (S : X → List (List ℕ) → Type 0) → HasNoCommas X S → (front back : List (List ℕ)) → HasNone (codes ",") front → Finds (λ it. S it front) None → (es : List X) → SpellsSome S es (front ++ codes "," ∷ back) → ⊥
 no_comma_next S bare front back none finds [] spelled = spelled
-no_comma_next S bare front back none finds (a ∷ []) spelled = has_own (codes ",") front back (bare.none a (front ++ codes "," ∷ back) spelled)
+no_comma_next S bare front back none finds (a ∷ []) spelled = has_sign (codes ",") front back (bare.none a (front ++ codes "," ∷ back) spelled)
 no_comma_next S bare front back none finds (a ∷ b ∷ others) (first, rest, is, spelled, more) =
-    let same = first_own (codes ",") first rest front back (bare.none a first spelled) none (sym is) in
+    let same = first_sign (codes ",") first rest front back (bare.none a first spelled) none (sym is) in
     none_found (λ it. S it front) finds a (subst (S a) same.0 spelled)
 
 -- the last
-last_next : {X : Type 0} (S : X → List (List ℕ) → Type 0) (tokens : List (List ℕ)) (e : X) → Lacks (codes ",") tokens → Finds (λ it. S it tokens) (Some e) → (es : List X) → SpellsSome S es tokens ↔ ((es ≡ e ∷ []) × Unit {0})
+last_next : {X : Type 0} (S : X → List (List ℕ) → Type 0) (tokens : List (List ℕ)) (e : X) → HasNone (codes ",") tokens → Finds (λ it. S it tokens) (Some e) → (es : List X) → SpellsSome S es tokens ↔ ((es ≡ e ∷ []) × Unit {0})
 last_next {X} S tokens e none finds es = (to es, from)
   where
     to : (all : List X) → SpellsSome S all tokens → (all ≡ e ∷ []) × Unit {0}
     to [] spelled = absurd spelled
     to (a ∷ []) spelled = (ap (λ it. it ∷ []) (found_only (λ it. S it tokens) e a finds spelled), tt)
-    to (a ∷ b ∷ others) (first, rest, is, spelled, more) = absurd (has_own (codes ",") first rest (subst (Lacks (codes ",")) is none))
+    to (a ∷ b ∷ others) (first, rest, is, spelled, more) = absurd (has_sign (codes ",") first rest (subst (HasNone (codes ",")) is none))
 
     from : (es ≡ e ∷ []) × Unit {0} → SpellsSome S es tokens
     from (is, it) =
@@ -80,17 +65,17 @@ last_next {X} S tokens e none finds es = (to es, from)
         subst (λ it. SpellsSome S it tokens) (sym is) all
 
 -- no last
-no_last_next : {X : Type 0} (S : X → List (List ℕ) → Type 0) (tokens : List (List ℕ)) → Lacks (codes ",") tokens → Finds (λ it. S it tokens) None → (es : List X) → SpellsSome S es tokens → ⊥
+no_last_next : {X : Type 0} (S : X → List (List ℕ) → Type 0) (tokens : List (List ℕ)) → HasNone (codes ",") tokens → Finds (λ it. S it tokens) None → (es : List X) → SpellsSome S es tokens → ⊥
 no_last_next S tokens none finds [] spelled = spelled
 no_last_next S tokens none finds (a ∷ []) spelled = none_found (λ it. S it tokens) finds a spelled
-no_last_next S tokens none finds (a ∷ b ∷ others) (first, rest, is, spelled, more) = has_own (codes ",") first rest (subst (Lacks (codes ",")) is none)
+no_last_next S tokens none finds (a ∷ b ∷ others) (first, rest, is, spelled, more) = has_sign (codes ",") first rest (subst (HasNone (codes ",")) is none)
 
 -- those that were read so far, and exactly how the tokens go on after them
 pub record SomeSoFar (X : Type 0) (S : X → List (List ℕ) → Type 0) (tokens : List (List ℕ)) (front : List X) (rest : List (List ℕ)) : Type 0 where
   pub exact : ReadsOn (λ es. SpellsSome S es tokens) front (λ es. SpellsSome S es rest)
 
 -- one more
-pub some_more : {X : Type 0} (S : X → List (List ℕ) → Type 0) → HasNoCommas X S → (tokens : List (List ℕ)) (front : List X) (old first rest : List (List ℕ)) (e : X) → SomeSoFar X S tokens front old → old ≡ first ++ codes "," ∷ rest → Lacks (codes ",") first → Finds (λ it. S it first) (Some e)
+pub some_more : {X : Type 0} (S : X → List (List ℕ) → Type 0) → HasNoCommas X S → (tokens : List (List ℕ)) (front : List X) (old first rest : List (List ℕ)) (e : X) → SomeSoFar X S tokens front old → old ≡ first ++ codes "," ∷ rest → HasNone (codes ",") first → Finds (λ it. S it first) (Some e)
     → SomeSoFar X S tokens (front ++ e ∷ []) rest
 some_more {X} S bare tokens front old first rest e so_far is none finds = record {
   exact = reads_on_more (λ es. SpellsSome S es tokens) (λ es. SpellsSome S es (first ++ codes "," ∷ rest)) (λ es. SpellsSome S es rest) front e
@@ -98,7 +83,7 @@ some_more {X} S bare tokens front old first rest e so_far is none finds = record
 }
 
 -- all of them
-pub some_end : {X : Type 0} (S : X → List (List ℕ) → Type 0) (tokens : List (List ℕ)) (front : List X) (rest : List (List ℕ)) (e : X) → SomeSoFar X S tokens front rest → Lacks (codes ",") rest → Finds (λ it. S it rest) (Some e)
+pub some_end : {X : Type 0} (S : X → List (List ℕ) → Type 0) (tokens : List (List ℕ)) (front : List X) (rest : List (List ℕ)) (e : X) → SomeSoFar X S tokens front rest → HasNone (codes ",") rest → Finds (λ it. S it rest) (Some e)
     → Finds (λ es. SpellsSome S es tokens) (Some (front ++ e ∷ []))
 some_end {X} S tokens front rest e so_far none finds =
     finds_some (λ es. SpellsSome S es tokens) (front ++ e ∷ []) ((whole (front ++ e ∷ [])).1 (refl, tt)) (λ es spelled. ((whole es).0 spelled).0)
@@ -107,14 +92,14 @@ some_end {X} S tokens front rest e so_far none finds =
     whole es = reads_on_end (λ it. SpellsSome S it tokens) (λ it. SpellsSome S it rest) (Unit {0}) front (e ∷ []) so_far.exact (last_next S rest e none finds) es
 
 -- where none comes before the next comma
-pub some_no_next : {X : Type 0} (S : X → List (List ℕ) → Type 0) → HasNoCommas X S → (tokens : List (List ℕ)) (front : List X) (old first rest : List (List ℕ)) → SomeSoFar X S tokens front old → old ≡ first ++ codes "," ∷ rest → Lacks (codes ",") first → Finds (λ it. S it first) None
+pub some_no_next : {X : Type 0} (S : X → List (List ℕ) → Type 0) → HasNoCommas X S → (tokens : List (List ℕ)) (front : List X) (old first rest : List (List ℕ)) → SomeSoFar X S tokens front old → old ≡ first ++ codes "," ∷ rest → HasNone (codes ",") first → Finds (λ it. S it first) None
     → Finds (λ es. SpellsSome S es tokens) None
 some_no_next S bare tokens front old first rest so_far is none finds =
     finds_none (λ es. SpellsSome S es tokens)
     (λ es spelled. let more = (so_far.exact es).0 spelled in no_comma_next S bare first rest none finds more.0 (subst (SpellsSome S more.0) is more.2))
 
 -- or behind the last
-pub some_no_last : {X : Type 0} (S : X → List (List ℕ) → Type 0) (tokens : List (List ℕ)) (front : List X) (rest : List (List ℕ)) → SomeSoFar X S tokens front rest → Lacks (codes ",") rest → Finds (λ it. S it rest) None → Finds (λ es. SpellsSome S es tokens) None
+pub some_no_last : {X : Type 0} (S : X → List (List ℕ) → Type 0) (tokens : List (List ℕ)) (front : List X) (rest : List (List ℕ)) → SomeSoFar X S tokens front rest → HasNone (codes ",") rest → Finds (λ it. S it rest) None → Finds (λ es. SpellsSome S es tokens) None
 some_no_last S tokens front rest so_far none finds =
     finds_none (λ es. SpellsSome S es tokens) (λ es spelled. let more = (so_far.exact es).0 spelled in no_last_next S rest none finds more.0 more.2)
 
@@ -135,20 +120,6 @@ listed_some {X} S tokens found some finds = finds_as (λ es. SpellsSome S es tok
     same : (es : List X) → SpellsListed S es tokens ↔ SpellsSome S es tokens
     same [] = ((λ is. absurd (some is)), λ spelled. absurd spelled)
     same (e ∷ es) = ((λ spelled. spelled), λ spelled. spelled)
-
--- what is made of items is that of those before a place, that of the one there, and that of those behind
-parts_suc : {X : Type 0} (f : X → List ℕ) (own : List ℕ) (xs : List X) (place : ℕ) (d : X) → place < length xs → f (get_or xs place d) ≡ own → map f xs ≡ map f (take place xs) ++ own ∷ map f (drop (suc place) xs)
-parts_suc f own [] place d within is = absurd (omega arith)
-parts_suc f own (x ∷ xs) zero d within is = ap (λ it. it ∷ map f xs) is
-parts_suc f own (x ∷ xs) (suc place) d within is = ap (λ it. f x ∷ it) (parts_suc f own xs place d (omega arith) is)
-
--- the tokens before one, and those behind it
-pub parts_at : {X : Type 0} (f : X → List ℕ) (own : List ℕ) (xs : List X) (place : ℕ) (d : X) → place < length xs → f (get_or xs place d) ≡ own → map f xs ≡ map f (take place xs) ++ own ∷ map f (drop (place + 1) xs)
-parts_at f own xs place d within is = rw add-one (parts_suc f own xs place d within is)
-
--- none before the end
-pub none_to_end : {X : Type 0} (f : X → List ℕ) (own : List ℕ) (xs : List X) (place : ℕ) → length xs ≤ place → Lacks own (map f (take place xs)) → Lacks own (map f xs)
-none_to_end f own xs place past none = subst (λ it. Lacks own (map f it)) (take_all place xs past) none
 
 -- what a test of emptiness says of what is made of each
 pub none_made : {X Y : Type 0} (f : X → Y) (xs : List X) → true ≡ (length xs == 0) → map f xs ≡ []

@@ -10,10 +10,10 @@ use Rattle.sour_reader.specs.Exit.{SpellsPlace, SpellsBinds, SpellsExtra, Spells
 use Rattle.sour_reader.specs.Parts.{IsPaired, bracketed, SplitsMap, SplitsExit, SplitsExtra, IsExtraOf}
 use Rattle.sour_reader.proofs.Found.{Finds, finds_none, finds_some, none_found, found_holds, found_only, MadeOfThree}
 use Rattle.sour_reader.proofs.Prefixes.{ReadsOn, reads_on_none, reads_on_more}
-use Rattle.sour_reader.proofs.Lists.{same_parts}
+use Rattle.sour_reader.proofs.Lists.{same_parts, first_same, behind_first}
 use Rattle.sour_reader.proofs.ValueLaws.{drop_plus}
 use Rattle.sour_reader.proofs.Expressions.{IsNameOf}
-use Rattle.sour_reader.proofs.Instructions.{first_same, behind_first, IsLabelOf}
+use Rattle.sour_reader.proofs.Instructions.{IsLabelOf}
 use Rattle.sour_reader.proofs.BracketLaws.{paired_binds, first_close}
 
 -- a place of these parts

@@ -7,13 +7,9 @@ use Rattle.sour_reader.specs.declared.heading.FunctionHeading.{FunctionHeading}
 use Rattle.sour_reader.specs.Job.{function_end}
 use Rattle.sour_reader.specs.Ahead.{AheadView, FollowNext, AreLeft, ReadsAs, ReadsAsNone, OneLine}
 use Rattle.sour_reader.specs.Front.{HasVersions, IsFunctionHeading, heading_of, HasFunction, NoneOr, EndOr, IsHeading, AreBehindFunctions, EndFunctions}
-use Rattle.sour_reader.proofs.Readings.{Passes, GoesOn, reads_both, reads_none_first, reads_none_second, reads_before, reads_none_before}
-use Rattle.sour_reader.proofs.BodyLaws.{first_is}
+use Rattle.sour_reader.proofs.Readings.{Lines, Passes, GoesOn, reads_both, reads_none_first, reads_none_second, reads_before, reads_none_before}
+use Rattle.sour_reader.proofs.Lists.{first_same}
 use Rattle.sour_reader.proofs.Operands.{apart}
-
--- lines as lists of tokens, and tokens as lists of bytes
-abbrev Lines : Type 0
-Lines = List (List (List ℕ))
 
 -- the versions, and then the line that ends the function
 abbrev ToEnd : FunctionHeading → List RawVersion → Lines → Lines → Type 0
@@ -74,8 +70,8 @@ functions_go_on ahead other lines left ended = lines_go_on IsHeading ahead other
 
 -- a heading begins with `%`
 heading_begins : (word : List ℕ) (tokens : List (List ℕ)) → IsHeading (word ∷ tokens) → word ≡ codes "%"
-heading_begins word tokens (inl is) = first_is _ _ _ _ is
-heading_begins word tokens (inr is) = first_is _ _ _ _ is
+heading_begins word tokens (inl is) = first_same is
+heading_begins word tokens (inr is) = first_same is
 
 -- no function begins there
 pub no_function_at_end : (function : RawFunction) (lines after : Lines) → EndFunctions lines → HasFunction function lines after → ⊥

@@ -3,13 +3,9 @@ use Rattle.std.proofs.Common.{◌≡◌, ◌↔◌, ℕ, ◌<◌, ◌≤◌, Lis
 use Rattle.std.specs.Prelude.{codes}
 use Rattle.sour_reader.specs.Name.{IsName}
 use Rattle.sour_reader.specs.Front.{ListsSome, ListsParameters}
-use Rattle.sour_reader.proofs.BodyLaws.{first_is}
+use Rattle.sour_reader.proofs.Lists.{first_same, behind_first}
 use Rattle.sour_reader.proofs.Operands.{apart}
 use Rattle.sour_reader.proofs.Prefixes.{ReadsOn, reads_on_more, reads_on_end}
-
--- lists of tokens that are the same go on with the same behind the first token
-others_are : (a b : List ℕ) (xs ys : List (List ℕ)) → a ∷ xs ≡ b ∷ ys → xs ≡ ys
-others_are a b xs ys is = cc
 
 -- a name and a comma, and then the others
 comma_next : (name : List ℕ) (behind rest : List (List ℕ)) → IsName name → behind ≡ codes "," ∷ rest → ReadsOn (λ names. ListsSome names (name ∷ behind)) (name ∷ []) (λ names. ListsSome names rest)
@@ -17,10 +13,10 @@ comma_next name behind rest own comma names = (to names, from)
   where
     to : (all : List (List ℕ)) → ListsSome all (name ∷ behind) → (others : List (List ℕ)) × (all ≡ name ∷ others) × ListsSome others rest
     to [] lists = absurd lists
-    to (a ∷ []) (is, each) = absurd (apart (codes ",") (codes ")") (first_is _ _ _ _ (sym comma ∙ others_are _ _ _ _ is)) refl)
+    to (a ∷ []) (is, each) = absurd (apart (codes ",") (codes ")") (first_same (sym comma ∙ behind_first is)) refl)
     to (a ∷ b ∷ others) (is, each) =
-        let first : a ≡ name = sym (first_is _ _ _ _ is) in
-        (b ∷ others, ap (λ it. it ∷ b ∷ others) first, (others_are _ _ _ _ (sym comma ∙ others_are _ _ _ _ is), each.1))
+        let first : a ≡ name = sym (first_same is) in
+        (b ∷ others, ap (λ it. it ∷ b ∷ others) first, (behind_first (sym comma ∙ behind_first is), each.1))
 
     from : (others : List (List ℕ)) × (names ≡ name ∷ others) × ListsSome others rest → ListsSome names (name ∷ behind)
     from ([], is, lists) = absurd lists
@@ -34,8 +30,8 @@ close_next name behind own close names = (to names, from)
   where
     to : (all : List (List ℕ)) → ListsSome all (name ∷ behind) → (all ≡ name ∷ []) × Unit {0}
     to [] lists = absurd lists
-    to (a ∷ []) (is, each) = (ap (λ it. it ∷ []) (sym (first_is _ _ _ _ is)), tt)
-    to (a ∷ b ∷ others) (is, each) = absurd (apart (codes ")") (codes ",") (first_is _ _ _ _ (sym close ∙ others_are _ _ _ _ is)) refl)
+    to (a ∷ []) (is, each) = (ap (λ it. it ∷ []) (sym (first_same is)), tt)
+    to (a ∷ b ∷ others) (is, each) = absurd (apart (codes ")") (codes ",") (first_same (sym close ∙ behind_first is)) refl)
 
     from : (names ≡ name ∷ []) × Unit {0} → ListsSome names (name ∷ behind)
     from (is, it) =
@@ -81,8 +77,8 @@ closed_at_once tokens close names = (to names, from)
   where
     to : (all : List (List ℕ)) → ListsParameters all tokens → Some [] ≡ Some all
     to [] lists = refl
-    to (a ∷ []) lists = absurd (let is = others_are _ _ _ _ (sym close ∙ lists.0) in cc)
-    to (a ∷ b ∷ others) lists = absurd (let is = others_are _ _ _ _ (sym close ∙ lists.0) in cc)
+    to (a ∷ []) lists = absurd (let is = behind_first (sym close ∙ lists.0) in cc)
+    to (a ∷ b ∷ others) lists = absurd (let is = behind_first (sym close ∙ lists.0) in cc)
 
     from : Some [] ≡ Some names → ListsParameters names tokens
     from some =

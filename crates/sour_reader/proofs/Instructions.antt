@@ -13,16 +13,8 @@ use Rattle.sour_reader.specs.Expression.{SpellsExpr}
 use Rattle.sour_reader.specs.Instruction.{SpellsInstr}
 use Rattle.sour_reader.specs.Parts.{SpellsSetting, BeginsNone}
 use Rattle.sour_reader.proofs.Operands.{apart, no_reserved}
-use Rattle.sour_reader.proofs.Lists.{same_parts}
+use Rattle.sour_reader.proofs.Lists.{same_parts, first_same, behind_first}
 use Rattle.sour_reader.proofs.Found.{Finds, finds_none, finds_some, finds_made, none_found, found_holds, found_only}
-
--- lists that are the same begin with the same
-pub first_same : {a b : List ℕ} {others more : List (List ℕ)} → a ∷ others ≡ b ∷ more → a ≡ b
-first_same is = cc
-
--- and go on with the same
-pub behind_first : {a b : List ℕ} {others more : List (List ℕ)} → a ∷ others ≡ b ∷ more → others ≡ more
-behind_first is = cc
 
 -- lists that begin with different words are different
 pub differs : {a b : List ℕ} {others more : List (List ℕ)} → a ∷ others ≡ b ∷ more → bytes_eq a b ≡ false → ⊥

@@ -15,11 +15,7 @@ use Rattle.sour_reader.specs.Limits.{HasShortInstrs, IsShortVersion, IsShortFunc
 use Rattle.sour_reader.specs.Job.{SpellsLines, SpellsVersion, SpellsVersions, SpellsFunction, SpellsFunctions, SpellsJob, Reads, parameters_spelling, version_heading, function_heading, function_end}
 use Rattle.sour_reader.specs.Ahead.{AheadView, AreLeft, ReadsAs, ReadsAsNone, OneLine, EachUpTo}
 use Rattle.sour_reader.specs.Front.{IsLine, BeginsVersionOrEnd, EndVersion, HasVersion, EndFunction, HasFunction, EndFunctions, HasFunctions, IsPlanJob, IsPlanHeading, NextIs, EndPlan, HasPlan, IsInput, EndText, HasInputs, HasOthers}
-use Rattle.sour_reader.proofs.Readings.{left_at_end, reads_both}
-
--- lines of a text, each line as its tokens and each token as its bytes
-abbrev Lines : Type 0
-Lines = List (List (List ℕ))
+use Rattle.sour_reader.proofs.Readings.{Lines, left_at_end, reads_both}
 
 -- a whole job
 abbrev pub HasJob : RawJob → Lines → Lines → Type 0

@@ -14,7 +14,7 @@ use Rattle.sour_reader.specs.Instruction.{SpellsInstr, SpellsLabelled, SpellsLin
 use Rattle.sour_reader.specs.Parts.{HasNoColon}
 use Rattle.sour_reader.proofs.Operands.{apart, colon_begins_none}
 use Rattle.sour_reader.proofs.Expressions.{no_expr_begins, no_empty_expr}
-use Rattle.sour_reader.proofs.Instructions.{first_same}
+use Rattle.sour_reader.proofs.Lists.{first_same, behind_first}
 use Rattle.sour_reader.proofs.Found.{Finds, finds_none, finds_made, none_found, found_holds}
 
 -- `:` is no name
@@ -35,13 +35,9 @@ no_colon_expr : (e : RawExpr) (first : List ℕ) (tokens : List (List ℕ)) → 
 no_colon_expr e first tokens is spelled =
     no_expr_begins e (codes ":") tokens colon_begins_none (λ same. apart (codes ":") (codes "!") same refl) (subst (λ it. SpellsExpr e (it ∷ tokens)) is spelled)
 
--- lists that are the same have the same second item, and the same behind it
+-- lists that are the same have the same second item
 second_same : {a b c d : List ℕ} {others more : List (List ℕ)} → a ∷ c ∷ others ≡ b ∷ d ∷ more → d ≡ c
 second_same is = cc
-
--- lists that are the same have the same behind the second item
-rest_same : {a b c d : List ℕ} {others more : List (List ℕ)} → a ∷ c ∷ others ≡ b ∷ d ∷ more → others ≡ more
-rest_same is = cc
 
 -- nor a condition or a value behind the first token
 no_colon_condition : (e : RawExpr) (value : List (List ℕ)) (first word a b : List ℕ) (tokens : List (List ℕ)) → first ∷ codes ":" ∷ tokens ≡ word ∷ value ++ a ∷ b ∷ [] → SpellsExpr e value → ⊥
@@ -115,7 +111,7 @@ labelled name tokens label found first finds =
     to (Some other) instr (rest, is, named, spelled) = (
       instr,
       ap (λ it. line_with (Some it) instr) (sym (first_same is) ∙ own.0),
-      subst (SpellsInstr instr) (sym (rest_same is)) spelled,
+      subst (SpellsInstr instr) (sym (behind_first (behind_first is))) spelled,
     )
 
     from : (line : RawLine) → (it : RawInstr) × (line ≡ line_with (Some label) it) × SpellsInstr it tokens → SpellsLine line (name ∷ codes ":" ∷ tokens)

@@ -28,5 +28,6 @@ pub mod AssumeLaws
 pub mod ExitMentionLaws
 pub mod Paths
 pub mod Separated
+pub mod NoSeparators
 pub mod PassLaws
 pub mod PlanLaws

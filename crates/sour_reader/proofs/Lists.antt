@@ -1,4 +1,4 @@
--- Short lists.
+-- Short lists, and the parts of lists.
 use Rattle.std.proofs.Common.{◌≡◌, List, [], ◌∷◌, ◌++◌, length, map, take, drop, get_or, ℕ, refl, sym, ap, ◌∙◌, arith}
 use Rattle.std.proofs.lemmas.List.{take-append-drop, map-append}
 use Rattle.std.specs.List.{AllByRecursion}
@@ -37,3 +37,11 @@ same_parts (x ∷ xs) ys (z ∷ zs) ws is count =
     let tail : xs ++ ys ≡ zs ++ ws = cc in
     let parts = same_parts xs ys zs ws tail (omega arith) in
     (ap (λ it. it ∷ xs) head ∙ ap (λ it. z ∷ it) parts.0, parts.1)
+
+-- lists that are the same begin with the same
+pub first_same : {X : Type 0} {a b : X} {others more : List X} → a ∷ others ≡ b ∷ more → a ≡ b
+first_same is = cc
+
+-- and go on with the same
+pub behind_first : {X : Type 0} {a b : X} {others more : List X} → a ∷ others ≡ b ∷ more → others ≡ more
+behind_first is = cc

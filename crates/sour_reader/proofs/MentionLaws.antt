@@ -1,5 +1,6 @@
 -- How the variables of a version grow, name by name.
-use Rattle.std.proofs.Common.{◌≡◌, ◌≢◌, ℕ, zero, suc, ◌+◌, ◌*◌, append_assoc, append-nil, ◌≤◌, Bool, true, false, ◌||◌, List, [], ◌∷◌, ◌++◌, take, length, length-append, Some, refl, sym, ap, ◌∙◌, inl, inr, get_or, ◌<◌, arith}
+use Rattle.std.proofs.Common.{◌≡◌, ◌≢◌, ℕ, zero, suc, ◌+◌, ◌*◌, append_assoc, append-nil, ◌≤◌, Bool, true, false, List, [], ◌∷◌, ◌++◌, take, length, length-append, Some, refl, sym, ap, ◌∙◌, inl, inr, get_or, ◌<◌, arith}
+use Rattle.std.proofs.lemmas.Bool.{or_left, or_right, or_from, false_from_ne_true}
 use Rattle.std.proofs.lemmas.List.{take_more, length-take}
 use Rattle.std.specs.Prelude.{slice_get, cond}
 use Rattle.std.specs.List.{AllByRecursion, list_any}
@@ -14,33 +15,19 @@ use Rattle.sour_reader.specs.declared.raw.RawExpr.TheVariants.{Plain, Cell, Leng
 use Rattle.sour_reader.specs.declared.raw.RawLine.{RawLine}
 use Rattle.sour_reader.specs.Mentions.{simple_names, expr_names, each_names, instr_names, with_name, with_names, with_lines}
 
--- one of two tests holds where the first does
-any_first : (test any : Bool) → test ≡ true → (test || any) ≡ true
-any_first test any is = rw is refl
-
--- one of two tests holds where the second does
-any_later : (test any : Bool) → any ≡ true → (test || any) ≡ true
-any_later true any is = refl
-any_later false any is = is
-
 -- a name that has a place is among them
 any_at : (names : List (List ℕ)) (place : ℕ) (name : List ℕ) → slice_get names place ≡ Some name → list_any (bytes_eq name) names ≡ true
 any_at [] place name at = cc
 any_at (first ∷ names) zero name at =
     let same : name ≡ first = cc in
-    any_first (bytes_eq name first) (list_any (bytes_eq name) names) ((bytes_eq-Decides name first).1 same)
-any_at (first ∷ names) (suc place) name at = any_later (bytes_eq name first) (list_any (bytes_eq name) names) (any_at names place name at)
-
--- neither of two tests holds where the first can't and the second doesn't
-any_neither : (test any : Bool) → (test ≡ true → ⊥) → any ≡ false → (test || any) ≡ false
-any_neither true any other is = absurd (other refl)
-any_neither false any other is = is
+    or_left (bytes_eq name first) (list_any (bytes_eq name) names) ((bytes_eq-Decides name first).1 same)
+any_at (first ∷ names) (suc place) name at = or_right (bytes_eq name first) (list_any (bytes_eq name) names) (any_at names place name at)
 
 -- a name that differs from each isn't
 none_at : (names : List (List ℕ)) (name : List ℕ) → AllByRecursion (λ other. other ≢ name) names → list_any (bytes_eq name) names ≡ false
 none_at [] name differ = refl
 none_at (first ∷ names) name differ =
-    any_neither (bytes_eq name first) (list_any (bytes_eq name) names) (λ is. differ.0 (sym ((bytes_eq-Decides name first).0 is))) (none_at names name differ.1)
+    or_from (bytes_eq name first) (list_any (bytes_eq name) names) (false_from_ne_true (bytes_eq name first) (λ is. differ.0 (sym ((bytes_eq-Decides name first).0 is)))) (none_at names name differ.1)
 
 -- a name that got a number was put behind the others where it wasn't among them
 pub numbered_with : (old new : List (List ℕ)) (name : List ℕ) (x : VarId) → Numbers old new name x → new ≡ with_name old name

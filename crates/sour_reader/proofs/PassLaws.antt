@@ -21,10 +21,11 @@ use Rattle.sour_reader.specs.Plan.{ArePath, SpellsPath, SpellsAnchor, SpellsSide
 use Rattle.sour_reader.specs.Separators.{HasNone, EndsPath, BeginsAnchor, SpellsSomePasses}
 use Rattle.sour_reader.proofs.Operands.{apart, digits_no_word, no_reserved, BeginsNoOperand, no_operand_begins, no_empty_operand}
 use Rattle.sour_reader.proofs.Found.{Finds, finds_none, finds_some, finds_as, finds_made, none_found, found_holds, found_only}
-use Rattle.sour_reader.proofs.Lists.{same_parts}
+use Rattle.sour_reader.proofs.Lists.{same_parts, first_same}
 use Rattle.sour_reader.proofs.Prefixes.{ReadsOn, reads_on_none, reads_on_more, reads_on_end}
 use Rattle.sour_reader.proofs.Paths.{IsFirstAnchor, NoAnchor}
-use Rattle.sour_reader.proofs.Separated.{label_word, first_sign, has_sign, no_equal, no_semicolon}
+use Rattle.sour_reader.proofs.Separated.{first_sign, has_sign}
+use Rattle.sour_reader.proofs.NoSeparators.{label_word, no_equal, no_semicolon}
 
 -- `/` begins no operand
 slash_begins_none : BeginsNoOperand (codes "/")
@@ -185,14 +186,6 @@ point_is tokens behind anchor own first finds path predicate = (to, from)
         let begins = (first path behind).1 (path_is, refl) in
         (begins.0, behind, begins.1, begins.2, subst (λ it. SpellsPredicate it behind) (sym is) (found_holds (λ it. SpellsPredicate it behind) own finds))
 
--- lists of tokens that are the same have the same first token
-head_is : (token word : List ℕ) (tokens others : List (List ℕ)) → token ∷ tokens ≡ word ∷ others → token ≡ word
-head_is token word tokens others is = cc
-
--- and the same tokens behind the first
-tail_is : (token word : List ℕ) (tokens others : List (List ℕ)) → token ∷ tokens ≡ word ∷ others → tokens ≡ others
-tail_is token word tokens others is = cc
-
 -- a pass has a token
 pub no_empty_pass : (pass : RawPass) → SpellsPass pass [] → ⊥
 no_empty_pass (Inject anchor predicate) (rest, is, point) = cc
@@ -211,13 +204,13 @@ other_word one other is same differ = apart one other (sym is ∙ same) differ
 -- a pass that begins with `inject` is one of an anchor and a predicate, which the tokens behind it spell
 as_inject : (tokens : List (List ℕ)) (pass : RawPass) → SpellsPass pass (codes "inject" ∷ tokens) → (anchor : List ℕ) × (predicate : RawPredicate) × (pass ≡ Inject anchor predicate) × SpellsPoint anchor predicate tokens
 as_inject tokens (Inject anchor predicate) (rest, is, point) = let same : rest ≡ tokens = cc in (anchor, predicate, refl, subst (SpellsPoint anchor predicate) same point)
-as_inject tokens Constprop is = absurd (other_word (codes "inject") (codes "constprop") refl (head_is _ _ _ _ is) refl)
-as_inject tokens Unreachable is = absurd (other_word (codes "inject") (codes "unreachable") refl (head_is _ _ _ _ is) refl)
-as_inject tokens (Inline call start) (path, is, spelled) = absurd (other_word (codes "inject") (codes "inline") refl (head_is _ _ _ _ is) refl)
-as_inject tokens (Move anchor) (rest, is, spelled) = absurd (other_word (codes "inject") (codes "move") refl (head_is _ _ _ _ is) refl)
-as_inject tokens (Hoist from to predicate) (front, back, is, anchor, point) = absurd (other_word (codes "inject") (codes "hoist") refl (head_is _ _ _ _ is) refl)
-as_inject tokens (Compose anchor) (rest, is, spelled) = absurd (other_word (codes "inject") (codes "compose") refl (head_is _ _ _ _ is) refl)
-as_inject tokens Prune is = absurd (other_word (codes "inject") (codes "prune") refl (head_is _ _ _ _ is) refl)
+as_inject tokens Constprop is = absurd (other_word (codes "inject") (codes "constprop") refl (first_same is) refl)
+as_inject tokens Unreachable is = absurd (other_word (codes "inject") (codes "unreachable") refl (first_same is) refl)
+as_inject tokens (Inline call start) (path, is, spelled) = absurd (other_word (codes "inject") (codes "inline") refl (first_same is) refl)
+as_inject tokens (Move anchor) (rest, is, spelled) = absurd (other_word (codes "inject") (codes "move") refl (first_same is) refl)
+as_inject tokens (Hoist from to predicate) (front, back, is, anchor, point) = absurd (other_word (codes "inject") (codes "hoist") refl (first_same is) refl)
+as_inject tokens (Compose anchor) (rest, is, spelled) = absurd (other_word (codes "inject") (codes "compose") refl (first_same is) refl)
+as_inject tokens Prune is = absurd (other_word (codes "inject") (codes "prune") refl (first_same is) refl)
 
 -- `inject`, an anchor and a predicate spell the pass of these, and no other
 pub inject_found : (tokens : List (List ℕ)) (anchor : List ℕ) (predicate : RawPredicate) → IsPoint tokens anchor predicate → Finds (λ pass. SpellsPass pass (codes "inject" ∷ tokens)) (Some (Inject anchor predicate))
@@ -239,13 +232,13 @@ no_inject tokens none =
 as_hoist : (tokens : List (List ℕ)) (pass : RawPass) → SpellsPass pass (codes "hoist" ∷ tokens)
     → (from : List ℕ) × (to : List ℕ) × (predicate : RawPredicate) × (front : List (List ℕ)) × (back : List (List ℕ)) × (pass ≡ Hoist from to predicate) × (tokens ≡ front ++ back) × SpellsAnchor from front × SpellsPoint to predicate back
 as_hoist tokens (Hoist from to predicate) (front, back, is, anchor, point) = let same : tokens ≡ front ++ back = cc in (from, to, predicate, front, back, refl, same, anchor, point)
-as_hoist tokens Constprop is = absurd (other_word (codes "hoist") (codes "constprop") refl (head_is _ _ _ _ is) refl)
-as_hoist tokens Unreachable is = absurd (other_word (codes "hoist") (codes "unreachable") refl (head_is _ _ _ _ is) refl)
-as_hoist tokens (Inline call start) (path, is, spelled) = absurd (other_word (codes "hoist") (codes "inline") refl (head_is _ _ _ _ is) refl)
-as_hoist tokens (Move anchor) (rest, is, spelled) = absurd (other_word (codes "hoist") (codes "move") refl (head_is _ _ _ _ is) refl)
-as_hoist tokens (Inject anchor predicate) (rest, is, point) = absurd (other_word (codes "hoist") (codes "inject") refl (head_is _ _ _ _ is) refl)
-as_hoist tokens (Compose anchor) (rest, is, spelled) = absurd (other_word (codes "hoist") (codes "compose") refl (head_is _ _ _ _ is) refl)
-as_hoist tokens Prune is = absurd (other_word (codes "hoist") (codes "prune") refl (head_is _ _ _ _ is) refl)
+as_hoist tokens Constprop is = absurd (other_word (codes "hoist") (codes "constprop") refl (first_same is) refl)
+as_hoist tokens Unreachable is = absurd (other_word (codes "hoist") (codes "unreachable") refl (first_same is) refl)
+as_hoist tokens (Inline call start) (path, is, spelled) = absurd (other_word (codes "hoist") (codes "inline") refl (first_same is) refl)
+as_hoist tokens (Move anchor) (rest, is, spelled) = absurd (other_word (codes "hoist") (codes "move") refl (first_same is) refl)
+as_hoist tokens (Inject anchor predicate) (rest, is, point) = absurd (other_word (codes "hoist") (codes "inject") refl (first_same is) refl)
+as_hoist tokens (Compose anchor) (rest, is, spelled) = absurd (other_word (codes "hoist") (codes "compose") refl (first_same is) refl)
+as_hoist tokens Prune is = absurd (other_word (codes "hoist") (codes "prune") refl (first_same is) refl)
 
 -- `hoist` spells no pass where no anchor comes behind it
 pub no_hoist : (tokens : List (List ℕ)) → NoAnchor tokens → Finds (λ pass. SpellsPass pass (codes "hoist" ∷ tokens)) None
@@ -300,13 +293,13 @@ last_same front other x y is =
 as_inline : (tokens : List (List ℕ)) (pass : RawPass) → SpellsPass pass (codes "inline" ∷ tokens)
     → (call : List ℕ) × (start : Start) × (path : List (List ℕ)) × (pass ≡ Inline call start) × (tokens ≡ path ++ start_spelling start ∷ []) × SpellsPath call path
 as_inline tokens (Inline call start) (path, is, spelled) = let same : tokens ≡ path ++ start_spelling start ∷ [] = cc in (call, start, path, refl, same, spelled)
-as_inline tokens (Inject anchor predicate) (rest, is, point) = absurd (other_word (codes "inline") (codes "inject") refl (head_is _ _ _ _ is) refl)
-as_inline tokens Constprop is = absurd (other_word (codes "inline") (codes "constprop") refl (head_is _ _ _ _ is) refl)
-as_inline tokens Unreachable is = absurd (other_word (codes "inline") (codes "unreachable") refl (head_is _ _ _ _ is) refl)
-as_inline tokens (Move anchor) (rest, is, spelled) = absurd (other_word (codes "inline") (codes "move") refl (head_is _ _ _ _ is) refl)
-as_inline tokens (Hoist from to predicate) (front, back, is, anchor, point) = absurd (other_word (codes "inline") (codes "hoist") refl (head_is _ _ _ _ is) refl)
-as_inline tokens (Compose anchor) (rest, is, spelled) = absurd (other_word (codes "inline") (codes "compose") refl (head_is _ _ _ _ is) refl)
-as_inline tokens Prune is = absurd (other_word (codes "inline") (codes "prune") refl (head_is _ _ _ _ is) refl)
+as_inline tokens (Inject anchor predicate) (rest, is, point) = absurd (other_word (codes "inline") (codes "inject") refl (first_same is) refl)
+as_inline tokens Constprop is = absurd (other_word (codes "inline") (codes "constprop") refl (first_same is) refl)
+as_inline tokens Unreachable is = absurd (other_word (codes "inline") (codes "unreachable") refl (first_same is) refl)
+as_inline tokens (Move anchor) (rest, is, spelled) = absurd (other_word (codes "inline") (codes "move") refl (first_same is) refl)
+as_inline tokens (Hoist from to predicate) (front, back, is, anchor, point) = absurd (other_word (codes "inline") (codes "hoist") refl (first_same is) refl)
+as_inline tokens (Compose anchor) (rest, is, spelled) = absurd (other_word (codes "inline") (codes "compose") refl (first_same is) refl)
+as_inline tokens Prune is = absurd (other_word (codes "inline") (codes "prune") refl (first_same is) refl)
 
 -- `inline` spells no pass where the tokens don't end with the word for a start
 pub no_inline_start : (tokens : List (List ℕ)) → ((front : List (List ℕ)) (start : Start) → tokens ≡ front ++ start_spelling start ∷ [] → ⊥) → Finds (λ pass. SpellsPass pass (codes "inline" ∷ tokens)) None
@@ -336,13 +329,13 @@ move_found tokens found finds = finds_made (λ path. SpellsAnchor path tokens) (
   where
     to : (pass : RawPass) → SpellsPass pass (codes "move" ∷ tokens) → (anchor : List ℕ) × (pass ≡ Move anchor) × SpellsAnchor anchor tokens
     to (Move anchor) (rest, is, spelled) = let same : rest ≡ tokens = cc in (anchor, refl, subst (SpellsAnchor anchor) same spelled)
-    to (Inject anchor predicate) (rest, is, point) = absurd (other_word (codes "move") (codes "inject") refl (head_is _ _ _ _ is) refl)
-    to Constprop is = absurd (other_word (codes "move") (codes "constprop") refl (head_is _ _ _ _ is) refl)
-    to Unreachable is = absurd (other_word (codes "move") (codes "unreachable") refl (head_is _ _ _ _ is) refl)
-    to (Inline call start) (path, is, spelled) = absurd (other_word (codes "move") (codes "inline") refl (head_is _ _ _ _ is) refl)
-    to (Hoist one other predicate) (front, back, is, anchor, point) = absurd (other_word (codes "move") (codes "hoist") refl (head_is _ _ _ _ is) refl)
-    to (Compose anchor) (rest, is, spelled) = absurd (other_word (codes "move") (codes "compose") refl (head_is _ _ _ _ is) refl)
-    to Prune is = absurd (other_word (codes "move") (codes "prune") refl (head_is _ _ _ _ is) refl)
+    to (Inject anchor predicate) (rest, is, point) = absurd (other_word (codes "move") (codes "inject") refl (first_same is) refl)
+    to Constprop is = absurd (other_word (codes "move") (codes "constprop") refl (first_same is) refl)
+    to Unreachable is = absurd (other_word (codes "move") (codes "unreachable") refl (first_same is) refl)
+    to (Inline call start) (path, is, spelled) = absurd (other_word (codes "move") (codes "inline") refl (first_same is) refl)
+    to (Hoist one other predicate) (front, back, is, anchor, point) = absurd (other_word (codes "move") (codes "hoist") refl (first_same is) refl)
+    to (Compose anchor) (rest, is, spelled) = absurd (other_word (codes "move") (codes "compose") refl (first_same is) refl)
+    to Prune is = absurd (other_word (codes "move") (codes "prune") refl (first_same is) refl)
 
     from : (pass : RawPass) → (anchor : List ℕ) × (pass ≡ Move anchor) × SpellsAnchor anchor tokens → SpellsPass pass (codes "move" ∷ tokens)
     from pass (anchor, is, spelled) = subst (λ it. SpellsPass it (codes "move" ∷ tokens)) (sym is) (tokens, refl, spelled)
@@ -353,13 +346,13 @@ compose_found tokens found finds = finds_made (λ path. SpellsAnchor path tokens
   where
     to : (pass : RawPass) → SpellsPass pass (codes "compose" ∷ tokens) → (anchor : List ℕ) × (pass ≡ Compose anchor) × SpellsAnchor anchor tokens
     to (Compose anchor) (rest, is, spelled) = let same : rest ≡ tokens = cc in (anchor, refl, subst (SpellsAnchor anchor) same spelled)
-    to (Inject anchor predicate) (rest, is, point) = absurd (other_word (codes "compose") (codes "inject") refl (head_is _ _ _ _ is) refl)
-    to Constprop is = absurd (other_word (codes "compose") (codes "constprop") refl (head_is _ _ _ _ is) refl)
-    to Unreachable is = absurd (other_word (codes "compose") (codes "unreachable") refl (head_is _ _ _ _ is) refl)
-    to (Inline call start) (path, is, spelled) = absurd (other_word (codes "compose") (codes "inline") refl (head_is _ _ _ _ is) refl)
-    to (Hoist one other predicate) (front, back, is, anchor, point) = absurd (other_word (codes "compose") (codes "hoist") refl (head_is _ _ _ _ is) refl)
-    to (Move anchor) (rest, is, spelled) = absurd (other_word (codes "compose") (codes "move") refl (head_is _ _ _ _ is) refl)
-    to Prune is = absurd (other_word (codes "compose") (codes "prune") refl (head_is _ _ _ _ is) refl)
+    to (Inject anchor predicate) (rest, is, point) = absurd (other_word (codes "compose") (codes "inject") refl (first_same is) refl)
+    to Constprop is = absurd (other_word (codes "compose") (codes "constprop") refl (first_same is) refl)
+    to Unreachable is = absurd (other_word (codes "compose") (codes "unreachable") refl (first_same is) refl)
+    to (Inline call start) (path, is, spelled) = absurd (other_word (codes "compose") (codes "inline") refl (first_same is) refl)
+    to (Hoist one other predicate) (front, back, is, anchor, point) = absurd (other_word (codes "compose") (codes "hoist") refl (first_same is) refl)
+    to (Move anchor) (rest, is, spelled) = absurd (other_word (codes "compose") (codes "move") refl (first_same is) refl)
+    to Prune is = absurd (other_word (codes "compose") (codes "prune") refl (first_same is) refl)
 
     from : (pass : RawPass) → (anchor : List ℕ) × (pass ≡ Compose anchor) × SpellsAnchor anchor tokens → SpellsPass pass (codes "compose" ∷ tokens)
     from pass (anchor, is, spelled) = subst (λ it. SpellsPass it (codes "compose" ∷ tokens)) (sym is) (tokens, refl, spelled)

@@ -9,16 +9,13 @@ use Rattle.sour_reader.specs.Plan.{start_spelling, SpellsPasses, SpellsPlanJob, 
 use Rattle.sour_reader.specs.Limits.{IsShortJob}
 use Rattle.sour_reader.specs.Ahead.{AheadView, AreLeft, ReadsAs, ReadsAsNone, OneLine, EachUpTo}
 use Rattle.sour_reader.specs.Front.{IsPlanJob, IsPlanHeading, IsInputsHeading, NextIs, AreBehindPlan, EndPlan, HasEachJob, HasPlan}
+use Rattle.sour_reader.proofs.Lists.{first_same}
 use Rattle.sour_reader.proofs.Operands.{apart}
 use Rattle.sour_reader.proofs.Found.{Finds, finds_none, finds_some, none_found, found_holds, found_only}
-use Rattle.sour_reader.proofs.Readings.{next_is, Passes, GoesOn, ReadSoFar, reads_with, so_far_end, so_far_nowhere, so_far_longer}
-use Rattle.sour_reader.proofs.BodyLaws.{first_is, next_ends, next_goes_on}
+use Rattle.sour_reader.proofs.Readings.{Lines, next_is, Passes, GoesOn, ReadSoFar, reads_with, so_far_end, so_far_nowhere, so_far_longer}
+use Rattle.sour_reader.proofs.BodyLaws.{next_ends, next_goes_on}
 use Rattle.sour_reader.proofs.FunctionLaws.{lines_end, lines_go_on}
 use Rattle.sour_reader.proofs.PassLaws.{start_same}
-
--- some lines, each of them the list of its tokens
-abbrev Lines : Type 0
-Lines = List (List (List ℕ))
 
 -- the line of a job begins so
 abbrev pub BeginsJob : List (List ℕ) → List ℕ → Start → List (List ℕ) → Type 0
@@ -75,7 +72,7 @@ no_job_at_end : (job : RawPlanJob) (lines after : Lines) → EndPlan lines → O
 no_job_at_end job [] after ended (tokens, is, spelled) = cc
 no_job_at_end job (first ∷ lines) after ended (tokens, is, ((rest, whole, named, passes), short)) =
     let same : first ≡ tokens = cc in
-    apart (codes "job") (codes "%") (first_is _ _ _ _ (sym whole ∙ sym same ∙ ended)) refl
+    apart (codes "job") (codes "%") (first_same (sym whole ∙ sym same ∙ ended)) refl
 
 -- all jobs, where the lines behind the plan come next
 pub whole_jobs : (start now : AheadView) (front : List RawPlanJob) → JobsSoFar start now front → AreBehindPlan now.next → ReadsAs HasEachJob start now front

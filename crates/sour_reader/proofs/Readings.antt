@@ -10,7 +10,7 @@ use Rattle.sour_reader.specs.Ahead.{AheadView, FollowNext, AreLeft, ReadsAs, Rea
 use Rattle.sour_reader.proofs.Prefixes.{ReadsOn, reads_on_none, reads_on_more, reads_on_end}
 
 -- lines of a text, each by its tokens, and each token by its bytes
-abbrev Lines : Type 0
+abbrev pub Lines : Type 0
 Lines = List (List (List ℕ))
 
 -- the lines of a text, by the first of them and what is behind it, or by there being none

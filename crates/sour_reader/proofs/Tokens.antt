@@ -18,7 +18,7 @@ use Rattle.sour_reader.specs.Name.{IsName}
 use Rattle.sour_reader.specs.Literal.{SpellsNumber, SpellsLiteral}
 use Rattle.sour_reader.specs.Operator.{op_spelling}
 use Rattle.sour_reader.specs.Expression.{SpellsSimple, SpellsExpr}
-use Rattle.sour_reader.specs.Parts.{Lacks}
+use Rattle.sour_reader.specs.Separators.{HasNone}
 use Rattle.sour_reader.proofs.Operands.{apart, no_reserved}
 
 -- neither a comma, nor a bracket, nor `else`
@@ -125,11 +125,11 @@ all_of_expr P plain opening closing (Binary op a b) tokens (left, right, is, fir
     (plain (op_spelling op) (plain_operator op), AllByRecursion-weaker IsPlain P plain right (plain_simple b right second)))
 
 -- an expression has no comma
-pub no_comma_expr : (e : RawExpr) (tokens : List (List ℕ)) → SpellsExpr e tokens → Lacks (codes ",") tokens
+pub no_comma_expr : (e : RawExpr) (tokens : List (List ℕ)) → SpellsExpr e tokens → HasNone (codes ",") tokens
 no_comma_expr e tokens spelled =
     all_of_expr (λ token. ¬ (token ≡ codes ",")) (λ token plain. plain.comma) (λ same. apart (codes "[") (codes ",") same refl) (λ same. apart (codes "]") (codes ",") same refl) e tokens spelled
 
 -- and no `else`
-pub no_else_expr : (e : RawExpr) (tokens : List (List ℕ)) → SpellsExpr e tokens → Lacks (codes "else") tokens
+pub no_else_expr : (e : RawExpr) (tokens : List (List ℕ)) → SpellsExpr e tokens → HasNone (codes "else") tokens
 no_else_expr e tokens spelled =
     all_of_expr (λ token. ¬ (token ≡ codes "else")) (λ token plain. plain.keyword) (λ same. apart (codes "[") (codes "else") same refl) (λ same. apart (codes "]") (codes "else") same refl) e tokens spelled

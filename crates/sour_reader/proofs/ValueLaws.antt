@@ -45,7 +45,7 @@ first_value (value ∷ values) tokens some (front, rest, whole, spelled, more) =
 }
 
 -- one value, and then what is behind it
-next_value : (tokens front rest : List (List ℕ)) (value : RawLiteral) → 0 < length tokens → tokens ≡ front ++ rest → length front ≡ operand_length tokens → IsLiteralOf front (Some value)
+pub next_value : (tokens front rest : List (List ℕ)) (value : RawLiteral) → 0 < length tokens → tokens ≡ front ++ rest → length front ≡ operand_length tokens → IsLiteralOf front (Some value)
     → ReadsOn (λ values. SpellsValues values tokens) (value ∷ []) (λ values. SpellsValues values rest)
 next_value tokens front rest value some whole count spells values = (to, from)
   where
@@ -63,16 +63,16 @@ next_value tokens front rest value some whole count spells values = (to, from)
         subst (λ all. SpellsValues all tokens) (sym is) one
 
 -- no value, where too few tokens are left
-no_value_short : (tokens : List (List ℕ)) (values : List RawLiteral) → 0 < length tokens → length tokens < operand_length tokens → SpellsValues values tokens → ⊥
-no_value_short tokens values some short spelled =
+pub no_value_short : (tokens : List (List ℕ)) → 0 < length tokens → length tokens < operand_length tokens → (values : List RawLiteral) → SpellsValues values tokens → ⊥
+no_value_short tokens some short values spelled =
     let first = first_value values tokens some spelled in
     let all = ap length first.whole ∙ length-append first.front first.rest in
     let count = first.count in
     absurd (omega arith)
 
 -- or where the first are none
-no_value : (tokens front rest : List (List ℕ)) (values : List RawLiteral) → 0 < length tokens → tokens ≡ front ++ rest → length front ≡ operand_length tokens → IsLiteralOf front None → SpellsValues values tokens → ⊥
-no_value tokens front rest values some whole count spells spelled =
+pub no_value : (tokens front rest : List (List ℕ)) → 0 < length tokens → tokens ≡ front ++ rest → length front ≡ operand_length tokens → IsLiteralOf front None → (values : List RawLiteral) → SpellsValues values tokens → ⊥
+no_value tokens front rest some whole count spells values spelled =
     let first = first_value values tokens some spelled in
     let same = same_parts first.front first.rest front rest (sym first.whole ∙ whole) (sym first.count ∙ sym count) in
     let found = (spells first.value).0 (subst (SpellsLiteral first.value) same.0 first.spelled) in
@@ -159,18 +159,6 @@ input_behind word tokens values is are input = (to, from)
 abbrev pub IsFirst : List (List ℕ) → RawLiteral → List (List ℕ) → Type 0
 IsFirst tokens value rest = (values : List RawLiteral) → SpellsValues values tokens ↔ ((others : List RawLiteral) × (values ≡ value ∷ others) × SpellsValues others rest)
 
--- where the tokens of the first operand spell a literal, that is the first value, before the others
-pub first_read : (tokens front rest : List (List ℕ)) (value : RawLiteral) → 0 < length tokens → tokens ≡ front ++ rest → length front ≡ operand_length tokens → IsLiteralOf front (Some value) → IsFirst tokens value rest
-first_read tokens front rest value some whole count spells = next_value tokens front rest value some whole count spells
-
--- some tokens that are too few for their first operand spell no values
-pub first_short : (tokens : List (List ℕ)) → 0 < length tokens → length tokens < operand_length tokens → (values : List RawLiteral) → SpellsValues values tokens → ⊥
-first_short tokens some short values spelled = no_value_short tokens values some short spelled
-
--- where the tokens of the first operand spell no literal, the whole spells no values
-pub first_other : (tokens front rest : List (List ℕ)) → 0 < length tokens → tokens ≡ front ++ rest → length front ≡ operand_length tokens → IsLiteralOf front None → (values : List RawLiteral) → SpellsValues values tokens → ⊥
-first_other tokens front rest some whole count spells values spelled = no_value tokens front rest values some whole count spells spelled
-
 -- one value more
 pub values_more : (tokens : List (List ℕ)) (values : List RawLiteral) (rest behind : List (List ℕ)) (value : RawLiteral) → ValuesSoFar tokens values rest → length values < 65536 → IsFirst rest value behind → ValuesSoFar tokens (values ++ value ∷ []) behind
 values_more tokens values rest behind value so_far few first = record {
@@ -197,13 +185,6 @@ pub take_length : {X : Type 0} (n : ℕ) (xs : List X) → n ≤ length xs → l
 take_length zero xs within = refl
 take_length (suc n) [] within = absurd (omega arith)
 take_length (suc n) (x ∷ xs) within = ap suc (take_length n xs (omega arith))
-
--- nothing is left of a list from its end on
-pub drop_all : {X : Type 0} (xs : List X) (place : ℕ) → length xs ≤ place → drop place xs ≡ []
-drop_all [] zero past = refl
-drop_all [] (suc place) past = refl
-drop_all (x ∷ xs) zero past = absurd (omega arith)
-drop_all (x ∷ xs) (suc place) past = drop_all xs place (omega arith)
 
 -- the kinds of what is left
 pub kinds_left : {X : Type 0} (P : X → Type 0) (place : ℕ) (xs : List X) → AllByRecursion P xs → AllByRecursion P (drop place xs)

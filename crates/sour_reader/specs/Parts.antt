@@ -1,7 +1,6 @@
 -- Parts of what is spelled.
 use Rattle.std.specs.Prelude.{◌≡◌, ◌≤◌, ◌<◌, ◌+◌, ℕ, Bool, true, false, if◌then◌else◌, List, [], ◌∷◌, ◌++◌, length, map, take, drop, codes, ⊤}
 use Rattle.std.specs.Str.{bytes_eq}
-use Rattle.std.specs.List.{AllByRecursion}
 use Rattle.sour_tokens.specs.declared.tokens.Token.{Token}
 use Rattle.sour_tokens.specs.Token.{spelling}
 use Rattle.sour_reader.specs.declared.raw.RawSimple.{RawSimple}
@@ -31,16 +30,6 @@ pub record BeginsOperand (tokens : List (List ℕ)) : Type 0 where
   pub negation : (rest : List (List ℕ)) → tokens ≡ codes "!" ∷ rest → ⊥
   pub length : (rest : List (List ℕ)) → tokens ≡ codes "length" ∷ rest → ⊥
   pub cell : (first : List ℕ) (rest : List (List ℕ)) → tokens ≡ first ∷ codes "[" ∷ rest → ⊥
-
--- none of the tokens is this one
-abbrev pub Lacks : List ℕ → List (List ℕ) → Type 0
-Lacks own tokens = AllByRecursion (λ (token : List ℕ). ¬ (token ≡ own)) tokens
-
--- the place of the first token that is this one, or the end
-pub record IsAtFirst (own : List ℕ) (tokens : List Token) (place : ℕ) : Type 0 where
-  pub within : place ≤ length tokens
-  pub before : Lacks own (map spelling (take place tokens))
-  pub at : place < length tokens → map spelling tokens ≡ map spelling (take place tokens) ++ own ∷ map spelling (drop (place + 1) tokens)
 
 -- one or more, each as S says, with commas between them
 abbrev pub SpellsSome : {X : Type 0} → (X → List (List ℕ) → Type 0) → List X → List (List ℕ) → Type 0

@@ -1,4 +1,4 @@
--- Where the parts of a job of the plan end.
+-- Tokens that stand between parts, and where the parts of a job of the plan end.
 use Rattle.std.specs.Prelude.{◌≡◌, ◌≤◌, ◌<◌, ◌+◌, ℕ, List, [], ◌∷◌, ◌++◌, length, map, take, drop, codes, ⊤}
 use Rattle.std.specs.List.{AllByRecursion}
 use Rattle.sour_tokens.specs.declared.tokens.Token.{Token}
@@ -6,11 +6,11 @@ use Rattle.sour_tokens.specs.Token.{spelling}
 use Rattle.sour_reader.specs.declared.raw.RawPass.{RawPass}
 use Rattle.sour_reader.specs.Plan.{SpellsPath, SpellsAnchor, SpellsPasses}
 
--- none of the tokens is this sign
+-- none of the tokens is this one
 abbrev pub HasNone : List ℕ → List (List ℕ) → Type 0
 HasNone sign tokens = AllByRecursion (λ (token : List ℕ). ¬ (token ≡ sign)) tokens
 
--- the place of the first of these signs, or the end
+-- the place of the first token that is this one, or the end
 pub record IsAtFirst (sign : List ℕ) (tokens : List Token) (place : ℕ) : Type 0 where
   pub within : place ≤ length tokens
   pub before : HasNone sign (map spelling (take place tokens))

@@ -4,7 +4,8 @@ ghost use Rattle.std.specs.Prelude.{◌≡◌, ◌∷◌, ◌++◌, [], ℕ, Lis
 ghost use Rattle.std.specs.List.{AllByRecursion};
 ghost use Rattle.sour_tokens.specs.Symbol.{symbol_spelling};
 ghost use Rattle.sour_tokens.specs.Token.{spelling, IsOfItsKind};
-ghost use Rattle.sour_reader.specs.Parts.{Lacks, IsAtFirst, inside_behind, IsPaired, IsAtClose};
+ghost use Rattle.sour_reader.specs.Parts.{inside_behind, IsPaired, IsAtClose};
+ghost use Rattle.sour_reader.specs.Separators.{HasNone, IsAtFirst};
 
 use crate::kind::{is_symbol, is_word};
 use sour_tokens::{Symbol, Token};
@@ -39,21 +40,6 @@ pub fn before_last<'a, 'b>(tokens: &'b [Token<'a>], symbol: Symbol) -> Option<&'
     }
 }
 
-/// The place of the first comma, or the number of tokens where none is one.
-pub fn comma_place(tokens: &[Token]) -> usize
-    requires { AllByRecursion IsOfItsKind tokens.now }
-    ensures { IsAtFirst (codes ",") tokens.now result }
-{
-    let mut place = 0;
-    while place < tokens.len() {
-        if is_symbol(&tokens[place], Symbol::Comma) {
-            return place;
-        }
-        place += 1;
-    }
-    place
-}
-
 /// The place of the first `else`, or the number of tokens where none is one.
 fn else_place(tokens: &[Token]) -> usize
     requires { AllByRecursion IsOfItsKind tokens.now }
@@ -76,8 +62,8 @@ pub(crate) fn split_else<'a, 'b>(
     requires { AllByRecursion IsOfItsKind tokens.now }
     ensures whole { IfSome result (λ parts. map spelling tokens.now ≡ map spelling parts.0.now ++ codes "else" ∷ map spelling parts.1.now) }
     ensures kinds { IfSome result (λ parts. AllByRecursion IsOfItsKind parts.0.now × AllByRecursion IsOfItsKind parts.1.now) }
-    ensures lacks { IfSome result (λ parts. Lacks (codes "else") (map spelling parts.0.now)) }
-    ensures none { IfNone result (Lacks (codes "else") (map spelling tokens.now)) }
+    ensures lacks { IfSome result (λ parts. HasNone (codes "else") (map spelling parts.0.now)) }
+    ensures none { IfNone result (HasNone (codes "else") (map spelling tokens.now)) }
 {
     let place = else_place(tokens);
     if place < tokens.len() {

@@ -7,11 +7,11 @@ ghost use Rattle.sour_reader.specs.declared.raw.RawExpr.{RawExpr};
 ghost use Rattle.sour_reader.specs.Expression.{SpellsExpr, SpellsEach};
 ghost use Rattle.sour_reader.specs.Parts.{SpellsSome};
 
-use crate::bracket::comma_place;
 use crate::expression::expression_of;
 use crate::raw::RawExpr;
+use crate::separator::symbol_place;
 use sour_syntax::List;
-use sour_tokens::Token;
+use sour_tokens::{Symbol, Token};
 use std::alloc::{AllocError, Global};
 
 /// The expressions, one or more, that these tokens spell with commas between them.
@@ -21,14 +21,14 @@ fn some_expressions(alloc: Global, tokens: &[Token]) -> Result<Option<List<RawEx
 {
     let mut expressions = List::new(alloc);
     let mut rest = tokens;
-    let mut count = comma_place(rest);
+    let mut count = symbol_place(rest, Symbol::Comma);
     while count < rest.len() {
         let Some(e) = expression_of(alloc, &rest[..count])? else {
             return Ok(None);
         };
         expressions.push(e)?;
         rest = &rest[count + 1..];
-        count = comma_place(rest);
+        count = symbol_place(rest, Symbol::Comma);
     }
     let Some(last) = expression_of(alloc, rest)? else {
         return Ok(None);

@@ -7,8 +7,8 @@ ghost use Rattle.sour_reader.specs.declared.raw.RawBind.{RawBind};
 ghost use Rattle.sour_reader.specs.Exit.{SpellsBind, SpellsBinds};
 ghost use Rattle.sour_reader.specs.Parts.{SpellsSome};
 
-use crate::bracket::comma_place;
 use crate::raw::RawBind;
+use crate::separator::symbol_place;
 use crate::setting::setting_of;
 use sour_syntax::List;
 use sour_tokens::{Symbol, Token};
@@ -35,14 +35,14 @@ fn some_binds(alloc: Global, tokens: &[Token]) -> Result<Option<List<RawBind>>, 
 {
     let mut binds = List::new(alloc);
     let mut rest = tokens;
-    let mut count = comma_place(rest);
+    let mut count = symbol_place(rest, Symbol::Comma);
     while count < rest.len() {
         let Some(bind) = bind_of(alloc, &rest[..count])? else {
             return Ok(None);
         };
         binds.push(bind)?;
         rest = &rest[count + 1..];
-        count = comma_place(rest);
+        count = symbol_place(rest, Symbol::Comma);
     }
     let Some(last) = bind_of(alloc, rest)? else {
         return Ok(None);

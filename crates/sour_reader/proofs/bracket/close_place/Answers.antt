@@ -3,7 +3,7 @@ use Rattle.std.specs.Prelude.{codes}
 use Rattle.std.proofs.lemmas.Bool.{false≢true}
 use Rattle.sour_tokens.specs.Token.{spelling}
 use Rattle.sour_reader.specs.Parts.{LeadsTo}
-use Rattle.sour_reader.proofs.Commas.{parts_at}
+use Rattle.sour_reader.proofs.Separated.{sign_at}
 use Rattle.sour_reader.proofs.BracketLaws.{leads_more}
 use Rattle.sour_reader.proofs.bracket.close_place.Goals as goal
 use Rattle.sour_reader.proofs.bracket.close_place.Goals.{else-not-inside-via-then-not-inside+else-is_symbol, else-not-inside-via-else-not-inside}
@@ -13,7 +13,7 @@ returns-then-is_symbol c = record {
   within = c.loop-place.invariant.within;
   before = (c.loop-place.inside, c.loop-place.invariant.led);
   paired = λ within. subst (LeadsTo false (map spelling (take c.loop-place.place c.args.tokens.now))) c.if-not-inside.true c.loop-place.invariant.led;
-  at = λ within. parts_at spelling (codes "]") c.args.tokens.now c.loop-place.place _ within (c.is_symbol.ensures.0 c.if-is_symbol.true);
+  at = λ within. sign_at spelling (codes "]") c.args.tokens.now c.loop-place.place _ within (c.is_symbol.ensures.0 c.if-is_symbol.true);
 }
 
 pub loop-place-preserved : goal.loop-place-preserved

@@ -1,6 +1,7 @@
 use Rattle.std.proofs.Common.{length, length-drop, map, drop, ap, sym, subst, arith}
+use Rattle.std.proofs.lemmas.List.{drop_all}
 use Rattle.sour_tokens.specs.Token.{spelling}
-use Rattle.sour_reader.proofs.ValueLaws.{drop_all, rest_whole, some_made}
+use Rattle.sour_reader.proofs.ValueLaws.{rest_whole, some_made}
 use Rattle.sour_reader.proofs.ExitLaws.{ExtrasSoFar, extras_none, extras_more, extras_end, extras_no_parts, extras_no_extra, extra_last}
 use Rattle.sour_reader.proofs.exit.extras_of.Goals as goal
 
@@ -32,4 +33,4 @@ loop-read-preserved c =
 pub returns : goal.returns
 returns c =
     extras_end (map spelling c.args.tokens.now) c.loop-read.extras (map spelling (drop c.loop-read.read c.args.tokens.now)) c.loop-read.invariant.exact
-    (ap (map spelling) (drop_all c.args.tokens.now c.loop-read.read c.loop-read-test.false))
+    (ap (map spelling) (drop_all c.loop-read.read c.args.tokens.now c.loop-read-test.false))

@@ -4,12 +4,13 @@ use Rattle.sour_tokens.specs.Token.{spelling, IsOfItsKind}
 use Rattle.sour_reader.proofs.ValueLaws.{rest_whole, kinds_left}
 use Rattle.sour_reader.specs.Expression.{SpellsExpr}
 use Rattle.sour_reader.proofs.BindLaws.{no_commas_expr}
-use Rattle.sour_reader.proofs.Commas.{some_more, some_end, some_no_next, some_no_last, none_to_end}
+use Rattle.sour_reader.proofs.Commas.{some_more, some_end, some_no_next, some_no_last}
+use Rattle.sour_reader.proofs.Separated.{none_to_end}
 use Rattle.sour_reader.proofs.expression_list.some_expressions.Goals as goal
 
 pub returns-in_default : goal.returns-in_default
 returns-in_default c =
-    some_no_next SpellsExpr no_commas_expr (map spelling c.args.tokens.now) c.loop-count.expressions (map spelling c.loop-count.rest.now) _ _ c.loop-count.invariant.read (c.loop-count.invariant.at.at c.loop-count-test.true)
+    some_no_next SpellsExpr no_commas_expr (map spelling c.args.tokens.now) c.loop-count.expressions (map spelling c.loop-count.rest.now) _ _ c.loop-count.invariant.read (c.loop-count.invariant.at.there c.loop-count-test.true)
     c.loop-count.invariant.at.before (rw c.in_default.is at c.in_ok-e.ensures)
 
 pub loop-count-preserved : goal.loop-count-preserved
@@ -18,9 +19,9 @@ loop-count-preserved c =
     record {
       shorter = omega (arith, length-drop (c.loop-count.count + 1) c.loop-count.rest.now);
       kinds = kinds_left IsOfItsKind (c.loop-count.count + 1) c.loop-count.rest.now c.loop-count.invariant.kinds;
-      read = some_more SpellsExpr no_commas_expr (map spelling c.args.tokens.now) c.loop-count.expressions (map spelling c.loop-count.rest.now) _ _ c.in-Some.e c.loop-count.invariant.read (c.loop-count.invariant.at.at c.loop-count-test.true)
+      read = some_more SpellsExpr no_commas_expr (map spelling c.args.tokens.now) c.loop-count.expressions (map spelling c.loop-count.rest.now) _ _ c.in-Some.e c.loop-count.invariant.read (c.loop-count.invariant.at.there c.loop-count-test.true)
           c.loop-count.invariant.at.before (rw c.in-Some.is at c.in_ok-e.ensures);
-      at = rw (rest_whole (c.loop-count.count + 1) c.loop-count.rest.now) at c.comma_place-count-in-loop-count.ensures;
+      at = rw (rest_whole (c.loop-count.count + 1) c.loop-count.rest.now) at c.symbol_place-count-in-loop-count.ensures;
     }
 
 pub returns-in_default-2 : goal.returns-in_default-2

@@ -4,7 +4,7 @@ use Rattle.std.specs.Prelude.{codes}
 use Rattle.sour_tokens.specs.Token.{spelling, IsOfItsKind}
 use Rattle.sour_reader.specs.declared.raw.RawExpr.{RawExpr}
 use Rattle.sour_reader.specs.Expression.{SpellsExpr}
-use Rattle.sour_reader.specs.Parts.{IsAtFirst}
+use Rattle.sour_reader.specs.Separators.{IsAtFirst}
 use Rattle.sour_reader.proofs.Commas.{SomeSoFar}
 use Rattle.sour_reader.proofs.expression_list.some_expressions.Given as goal
 

@@ -1,6 +1,7 @@
 use Rattle.std.proofs.Common.{length-drop, map, drop, ap, arith}
+use Rattle.std.proofs.lemmas.List.{drop_all}
 use Rattle.sour_tokens.specs.Token.{spelling}
-use Rattle.sour_reader.proofs.ValueLaws.{values_so_far_none, values_more, too_many_values, no_value_more, whole_values, some_made, drop_plus, drop_all, rest_whole}
+use Rattle.sour_reader.proofs.ValueLaws.{values_so_far_none, values_more, too_many_values, no_value_more, whole_values, some_made, drop_plus, rest_whole}
 use Rattle.sour_reader.proofs.inputs.values_of.Goals as goal
 
 pub loop-place-init : goal.loop-place-init
@@ -23,4 +24,4 @@ loop-place-preserved c =
 pub returns : goal.returns
 returns c =
     whole_values (map spelling c.args.tokens.now) c.loop-place.values (map spelling (drop c.loop-place.place c.args.tokens.now)) c.loop-place.invariant
-    (ap (map spelling) (drop_all c.args.tokens.now c.loop-place.place (omega arith)))
+    (ap (map spelling) (drop_all c.loop-place.place c.args.tokens.now (omega arith)))
