@@ -27,7 +27,7 @@ use Rattle.sour_reader.specs.Expression.{SpellsSimple, SpellsExpr, SpellsEach}
 use Rattle.sour_reader.specs.Instruction.{SpellsInstr, SpellsLabelled}
 use Rattle.sour_reader.specs.Job.{SpellsLines}
 use Rattle.sour_reader.specs.Mentions.{simple_names, expr_names, each_names, all_names, bind_names, map_names, extra_names, exit_names, instr_names, with_name, with_names, with_lines, variables_of}
-use Rattle.sour_reader.specs.Name.{IsName}
+use Rattle.sour_syntax.specs.Name.{IsName}
 
 -- a byte with which a word goes on isn't `/`
 not_slash : (byte : ℕ) → continues_word byte ≡ true → byte ≢ 47

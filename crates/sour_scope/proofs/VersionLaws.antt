@@ -19,7 +19,7 @@ use Rattle.sour_reader.specs.Instruction.{SpellsLabelled}
 use Rattle.sour_reader.specs.Job.{SpellsLines, SpellsVersions}
 use Rattle.sour_reader.specs.Limits.{IsShortVersion, HasShortInstrs, IsShortInstr as IsShortRaw}
 use Rattle.sour_reader.specs.Mentions.{variables_of}
-use Rattle.sour_reader.specs.Name.{IsName}
+use Rattle.sour_syntax.specs.Name.{IsName}
 use Rattle.sour_scope.specs.declared.outline.FunctionNames.{FunctionNames}
 use Rattle.sour_scope.specs.Outline.{own_names}
 use Rattle.sour_scope.specs.Numbered.{expr_of, extra_of, instr_of, label_of, lines_of, body_of, version_of}
