@@ -17,6 +17,7 @@ use Rattle.sour_syntax.specs.Exits.{Continuation, continuations_of}
 use Rattle.sour_syntax.specs.Labels.{from_label}
 use Rattle.sour_syntax.specs.Program.{ProgramView, BeginsPlain, IsPlainName, IsVersion, AreFunctions, IsProgram}
 use Rattle.sour_syntax.specs.Targets.{version_body, text_body, named_body, IsNamed}
+use Rattle.sour_syntax.proofs.PlainNames.{plain_labels}
 use Rattle.sour_semantics.specs.Step.{is_anchor}
 use Rattle.sour_semantics.specs.Shape.{without_at, BeginsWith}
 
@@ -125,7 +126,7 @@ are-lines functions (line ∷ lines) plain named =
 pub text-lines : (functions : List Function) (number : ℕ) (body : BodyView) → IsVersionBody functions number body → AllByRecursion IsTextLine body.lines
 text-lines functions number body of =
     let Lines : BodyView → Type 0 = λ b. AllByRecursion IsTextLine b.lines in
-    subst Lines of.same (are-lines functions of.version.body.lines of.is.labels of.is.exits.named)
+    subst Lines of.same (are-lines functions of.version.body.lines (plain_labels functions number of.parameters of.version of.is) of.is.exits.named)
 
 -- the label of the first of the lines that were taken
 taken-label : (label : List ℕ) (test : Bool) (first : Line) (lines found : List Line) (line : Line) (rest : List Line) → bytes_eq first.label label ≡ test

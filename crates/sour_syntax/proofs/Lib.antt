@@ -12,3 +12,4 @@ pub mod LastLine
 pub mod ScopeLists
 pub mod NoExits
 pub mod AutomaticLabels
+pub mod PlainNames
