@@ -2,7 +2,7 @@ pub mod ListLaws
 pub mod NameLaws
 pub mod VariableLaws
 pub mod VariableNames
-pub mod PlainNames
+pub mod WrittenNames
 pub mod OutlineLaws
 pub mod LiteralLaws
 pub mod LineLaws
