@@ -6,7 +6,7 @@ use Rattle.sour_syntax.specs.declared.instruction.Line.{Line}
 use Rattle.sour_syntax.specs.Exits.{Continuation, continuations_of}
 use Rattle.sour_syntax.specs.Limits.{IsShortInstr}
 use Rattle.sour_syntax.specs.Literals.{IsLiteral, literals_of}
-use Rattle.sour_syntax.specs.Program.{IsPlainName}
+use Rattle.sour_syntax.specs.Name.{IsName}
 
 -- its variables: x and y
 abbrev pub main_variables : List (List ℕ)
@@ -22,7 +22,7 @@ LeadsBack continuation = continuation ≡ record { target = record { code = Text
 
 -- a line of it
 pub record IsMainLine (line : Line) : Type 0 where
-  pub label : IsPlainName line.label
+  pub label : IsName line.label
   pub literals : AllByRecursion (IsLiteral 1) (literals_of line.instr)
   pub short : IsShortInstr line.instr
   pub back : AllByRecursion LeadsBack (continuations_of line.instr)

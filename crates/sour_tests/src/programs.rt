@@ -79,15 +79,17 @@ fn program_of_body(alloc: Global, body: Body) -> Result<Arc<Program>, AllocError
     // What these two ensure is all that holds of every body.
     let _ = body.lines();
     let _ = body.parameters();
+    let base = Vec::from_slice(alloc, b"base")?;
     let version = Version {
-        name: Label::from_bytes(Vec::new(alloc)),
+        name: Label::from_bytes(base),
         body,
     };
-    let main = Function {
-        name: Label::from_bytes(Vec::from_slice(alloc, b"main")?),
+    let main = Vec::from_slice(alloc, b"main")?;
+    let function = Function {
+        name: Label::from_bytes(main),
         versions: List::from_vec(vec![in alloc; version]?),
     };
-    let functions = List::from_vec(vec![in alloc; main]?);
+    let functions = List::from_vec(vec![in alloc; function]?);
     let program = Program::of_functions(functions, FunId(0));
     Ok(Arc::new(alloc, program.linked(alloc)?)?)
 }
