@@ -3,6 +3,8 @@ pub mod NameLaws
 pub mod VariableLaws
 pub mod VariableNames
 pub mod WrittenNames
+pub mod MentionLaws
+pub mod OrderLaws
 pub mod OutlineLaws
 pub mod LiteralLaws
 pub mod LineLaws

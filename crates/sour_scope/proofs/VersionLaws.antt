@@ -26,6 +26,7 @@ use Rattle.sour_scope.specs.Outline.{own_names}
 use Rattle.sour_scope.specs.Numbered.{expr_of, extra_of, instr_of, label_of, lines_of, body_of, version_of}
 use Rattle.sour_scope.specs.Checked.{IsAcceptedVersion}
 use Rattle.sour_scope.proofs.LineLaws.{length-lines_of}
+use Rattle.sour_scope.proofs.OrderLaws.{variables_in_order}
 use Rattle.sour_scope.proofs.VariableNames.{variables_differ, parameters_first}
 use Rattle.sour_scope.proofs.WrittenNames.{named_variables}
 
@@ -106,6 +107,7 @@ module _ (functions : List Function) (names : List FunctionNames) (number : ℕ)
         takes = refl;
         others = first.0;
         variables = first.1;
+        order = variables_in_order names parameters version.lines differ;
         differ = variables_differ parameters version.lines;
         names = named_variables parameters version.lines text named spells;
         labels = labels_named names own 0 version.lines text spells;
