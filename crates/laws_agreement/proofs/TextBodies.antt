@@ -12,6 +12,7 @@ use Rattle.sour_syntax.specs.BodyView.{BodyView}
 use Rattle.sour_syntax.specs.Exits.{Continuation, continuations_of}
 use Rattle.sour_syntax.specs.Program.{ProgramView, BeginsPlain, IsPlainName, IsVersion, AreFunctions, IsProgram}
 use Rattle.sour_syntax.specs.Targets.{version_body, text_body, named_body, IsNamed}
+use Rattle.sour_syntax.proofs.PlainNames.{plain_labels}
 use Rattle.sour_semantics.specs.Shape.{without_at, BeginsWith}
 use Rattle.sour_semantics.proofs.Anchors.{no_at}
 
@@ -103,4 +104,4 @@ are-lines functions (line ∷ lines) plain named =
 pub text-lines : (functions : List Function) (number : ℕ) (body : BodyView) → IsVersionBody functions number body → AllByRecursion IsTextLine body.lines
 text-lines functions number body of =
     let Lines : BodyView → Type 0 = λ b. AllByRecursion IsTextLine b.lines in
-    subst Lines of.same (are-lines functions of.version.body.lines of.is.labels of.is.exits.named)
+    subst Lines of.same (are-lines functions of.version.body.lines (plain_labels functions number of.parameters of.version of.is) of.is.exits.named)

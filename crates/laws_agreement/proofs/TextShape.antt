@@ -7,6 +7,7 @@ use Rattle.sour_syntax.specs.declared.program.Version.{Version}
 use Rattle.sour_syntax.specs.BodyView.{BodyView}
 use Rattle.sour_syntax.specs.Program.{ProgramView, BeginsPlain, IsPlainName, IsVersion}
 use Rattle.sour_syntax.specs.Targets.{text_body}
+use Rattle.sour_syntax.proofs.PlainNames.{plain_labels, plain_variables}
 use Rattle.sour_semantics.specs.Step.{is_anchor}
 use Rattle.sour_semantics.specs.Shape.{without_at, BeginsWith, IsAnchorInstr, IsInlined, HasMadeLabel, IsFreeFor, IsReached, HasShape}
 use Rattle.laws_agreement.specs.Laws.{TextAloneIsLawful}
@@ -54,6 +55,7 @@ HasShape-version : (program : ProgramView) (f : FunId) (parameters : List (List 
 HasShape-version program f parameters version is found reached =
     let numbered : ℕ → FunId = λ n. record { 0 = n } in
     let own : version.body.function ≡ f = ap numbered is.numbered in
+    let labels : AllByRecursion (λ (line : Line). IsPlainName line.label) version.body.lines = plain_labels program.functions f.0 parameters version is in
     record {
       each = (
         record {
@@ -67,8 +69,8 @@ HasShape-version program f parameters version is found reached =
           differ = is.differ;
           literals = is.literals;
           reached = reached;
-          labels = are-made_labels version.body.lines is.labels;
-          free = each-free version.body version.body.lines is.labels is.names;
+          labels = are-made_labels version.body.lines labels;
+          free = each-free version.body version.body.lines labels (plain_variables program.functions f.0 parameters version is);
           exits = is.exits;
           lines = is.lines;
           few_variables = is.few_variables;

@@ -19,6 +19,7 @@ use Rattle.sour_syntax.specs.Scopes.{Scope, scope_with, IsLineAt, HasScope}
 use Rattle.sour_syntax.specs.Targets.{version_body, text_body, named_body, scope_of_names, Lands}
 use Rattle.sour_syntax.proofs.Everywhere.{AllByRecursion-weaker, IfSome-slice_get, slice_get-front}
 use Rattle.sour_syntax.proofs.NamedScopes.{length-scope_of_names}
+use Rattle.sour_syntax.proofs.PlainNames.{plain_labels}
 use Rattle.sour_semantics.specs.State.{FrameCode, text, made}
 use Rattle.sour_semantics.specs.Step.{body_at, exit_code, is_anchor}
 use Rattle.sour_semantics.specs.Shape.{HasMadeLabel, IsMadeBody, AreMadeBodies}
@@ -108,7 +109,8 @@ IsBodyOf-version program function place number parameters version is = record {
   low = omega arith;
   anchors = AllByRecursion-weaker (λ (line : Line). IsPlainName line.label)
       (λ (line : Line). is_anchor line.label ≡ true → 0 < depth (text function place))
-      (λ line plain anchor. absurd (false≢true (sym (plain-no_anchor line.label plain.begins) ∙ anchor))) version.body.lines is.labels;
+      (λ line plain anchor. absurd (false≢true (sym (plain-no_anchor line.label plain.begins) ∙ anchor))) version.body.lines
+      (plain_labels program.functions number parameters version is);
   leads = λ count label scope line rest path at.
       AllByRecursion-weaker (Lands program.functions []) (Leads program (text function place))
       (λ continuation. Leads-lands program (text function place) [] continuation

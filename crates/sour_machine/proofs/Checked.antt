@@ -6,6 +6,7 @@ use Rattle.sour_syntax.specs.declared.program.Version.{Version}
 use Rattle.sour_syntax.specs.BodyView.{BodyView}
 use Rattle.sour_syntax.specs.Program.{ProgramView, IsPlainName, IsVersion, IsFunction, AreFunctions, IsProgram}
 use Rattle.sour_syntax.specs.Targets.{version_body, text_body, HasExits}
+use Rattle.sour_syntax.proofs.PlainNames.{plain_labels}
 use Rattle.sour_semantics.specs.Step.{body_at}
 use Rattle.sour_machine.specs.declared.frame.FrameCode.{FrameCode}
 use Rattle.sour_machine.specs.declared.frame.FrameCode.TheVariants.{Text}
@@ -33,7 +34,7 @@ version_at functions number parameters [] place body all runs = cc
 version_at functions number parameters (version ∷ versions) zero body all runs =
     let same : version.body ≡ body = cc in
     let Is : BodyView → Type 0 = IsTextBody functions in
-    subst Is same (record { labels = all.0.labels; exits = all.0.exits })
+    subst Is same (record { labels = plain_labels functions number parameters version all.0; exits = all.0.exits })
 version_at functions number parameters (version ∷ versions) (suc place) body all runs = version_at functions number parameters versions place body all.1 runs
 
 -- so has the body that is found for a version, if what is found for its function is one of the program

@@ -7,7 +7,7 @@ use Rattle.sour_reader.specs.declared.raw.RawInstr.{RawInstr}
 use Rattle.sour_reader.specs.declared.raw.RawInstr.TheVariants.{Var, Drop, Assign, ArrayLength, ArrayList, Store, Print, Read, Branch, Goto, Call, Return, Stop, Assume}
 use Rattle.sour_reader.specs.declared.raw.RawLine.{RawLine}
 use Rattle.sour_reader.specs.declared.raw.RawVersion.{RawVersion}
-use Rattle.sour_reader.specs.Name.{is_reserved}
+use Rattle.sour_syntax.specs.Name.{is_reserved}
 use Rattle.sour_reader.specs.Mentions.{instr_names, with_names, with_lines}
 use Rattle.sour_reader.specs.Instruction.{SpellsInstr, SpellsLabelled}
 use Rattle.sour_reader.specs.Job.{version_heading, function_end}

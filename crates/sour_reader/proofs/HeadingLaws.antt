@@ -1,7 +1,7 @@
 -- How the parameters of a function are listed.
 use Rattle.std.proofs.Common.{◌≡◌, ◌↔◌, ℕ, ◌<◌, ◌≤◌, List, [], ◌∷◌, ◌++◌, length, length-append, Option, None, Some, refl, sym, ap, ◌∙◌, subst, arith}
 use Rattle.std.specs.Prelude.{codes}
-use Rattle.sour_reader.specs.Name.{IsName}
+use Rattle.sour_syntax.specs.Name.{IsName}
 use Rattle.sour_reader.specs.Front.{ListsSome, ListsParameters}
 use Rattle.sour_reader.proofs.Lists.{first_same, behind_first}
 use Rattle.sour_reader.proofs.Operands.{apart}

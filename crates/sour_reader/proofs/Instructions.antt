@@ -7,7 +7,7 @@ use Rattle.std.proofs.lemmas.List.{map-append}
 use Rattle.sour_reader.specs.declared.raw.RawExpr.{RawExpr}
 use Rattle.sour_reader.specs.declared.raw.RawInstr.{RawInstr}
 use Rattle.sour_reader.specs.declared.raw.RawInstr.TheVariants.{Var, Drop, Assign, ArrayLength, ArrayList, Store, Print, Read, Branch, Goto, Call, Return, Stop, Assume}
-use Rattle.sour_reader.specs.Name.{IsName, is_reserved}
+use Rattle.sour_syntax.specs.Name.{IsName, is_reserved}
 use Rattle.sour_reader.specs.Label.{IsLabel}
 use Rattle.sour_reader.specs.Expression.{SpellsExpr}
 use Rattle.sour_reader.specs.Instruction.{SpellsInstr}

@@ -20,7 +20,7 @@ use Rattle.sour_reader.specs.Label.{IsDecimal, IsAutomaticLabel, IsLabel}
 use Rattle.sour_reader.specs.Plan.{IsPart, AreParts, ArePath, SpellsAnchor, SpellsSide, SpellsPredicate, SpellsPoint, start_spelling, SpellsPass}
 use Rattle.sour_reader.specs.Separators.{HasNone}
 use Rattle.sour_reader.proofs.Operands.{apart, BeginsNoOperand}
-use Rattle.sour_reader.proofs.Tokens.{all_append}
+use Rattle.sour_syntax.proofs.Everywhere.{AllByRecursion-append}
 
 -- a symbol that is in no operand and no path
 pub record IsSeparator (sign : List ℕ) : Type 0 where
@@ -127,11 +127,11 @@ module _ (sign : List ℕ) (own : IsSeparator sign) where
 
     predicate_none : (predicate : RawPredicate) (tokens : List (List ℕ)) → SpellsPredicate predicate tokens → HasNone sign tokens
     predicate_none predicate tokens (left, right, is, first, second) =
-        subst (HasNone sign) (sym is) (all_append (λ token. ¬ (token ≡ sign)) left (codes "==" ∷ right) (side_none predicate.left left first) (equal, side_none predicate.right right second))
+        subst (HasNone sign) (sym is) (AllByRecursion-append (λ token. ¬ (token ≡ sign)) left (codes "==" ∷ right) (side_none predicate.left left first) (equal, side_none predicate.right right second))
 
     point_none : (path : List ℕ) (predicate : RawPredicate) (tokens : List (List ℕ)) → SpellsPoint path predicate tokens → HasNone sign tokens
     point_none path predicate tokens (front, back, is, anchor, spelled) =
-        subst (HasNone sign) (sym is) (all_append (λ token. ¬ (token ≡ sign)) front back (anchor_none path front anchor) (predicate_none predicate back spelled))
+        subst (HasNone sign) (sym is) (AllByRecursion-append (λ token. ¬ (token ≡ sign)) front back (anchor_none path front anchor) (predicate_none predicate back spelled))
 
     word_only : (word : List ℕ) (tokens : List (List ℕ)) → IsWord word → tokens ≡ word ∷ [] → HasNone sign tokens
     word_only word tokens own_word is = subst (HasNone sign) (sym is) (word_other word own_word, tt)
@@ -147,10 +147,10 @@ module _ (sign : List ℕ) (own : IsSeparator sign) where
     pass_none Constprop tokens is = word_only (codes "constprop") tokens (search rules) is
     pass_none Unreachable tokens is = word_only (codes "unreachable") tokens (search rules) is
     pass_none (Inline call start) tokens (path, is, spelled) =
-        subst (HasNone sign) (sym is) (word_other (codes "inline") (search rules), all_append (λ token. ¬ (token ≡ sign)) path (start_spelling start ∷ []) (path_none path spelled.1) (start_none start))
+        subst (HasNone sign) (sym is) (word_other (codes "inline") (search rules), AllByRecursion-append (λ token. ¬ (token ≡ sign)) path (start_spelling start ∷ []) (path_none path spelled.1) (start_none start))
     pass_none (Move anchor) tokens (rest, is, spelled) = subst (HasNone sign) (sym is) (word_other (codes "move") (search rules), anchor_none anchor rest spelled)
     pass_none (Hoist from to predicate) tokens (front, back, is, anchor, point) =
-        subst (HasNone sign) (sym is) (word_other (codes "hoist") (search rules), all_append (λ token. ¬ (token ≡ sign)) front back (anchor_none from front anchor) (point_none to predicate back point))
+        subst (HasNone sign) (sym is) (word_other (codes "hoist") (search rules), AllByRecursion-append (λ token. ¬ (token ≡ sign)) front back (anchor_none from front anchor) (point_none to predicate back point))
     pass_none (Compose anchor) tokens (rest, is, spelled) =
         subst (HasNone sign) (sym is) (word_other (codes "compose") (search rules), anchor_none anchor rest spelled)
     pass_none Prune tokens is = word_only (codes "prune") tokens (search rules) is

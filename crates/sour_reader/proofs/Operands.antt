@@ -14,7 +14,7 @@ use Rattle.sour_reader.specs.declared.raw.RawLiteral.TheVariants.{Number, Truth,
 use Rattle.sour_reader.specs.declared.raw.RawSimple.{RawSimple}
 use Rattle.sour_reader.specs.declared.raw.RawSimple.TheVariants.{Lit, Name}
 use Rattle.sour_reader.specs.Literal.{SpellsNumber, SpellsLiteral}
-use Rattle.sour_reader.specs.Name.{IsName, is_reserved}
+use Rattle.sour_syntax.specs.Name.{IsName, is_reserved}
 use Rattle.sour_reader.specs.Expression.{SpellsSimple}
 use Rattle.sour_reader.specs.Operand.{operand_length}
 use Rattle.sour_reader.specs.Parts.{SplitsSo}

@@ -15,7 +15,7 @@ use Rattle.sour_reader.specs.declared.raw.RawPredicate.{RawPredicate}
 use Rattle.sour_reader.specs.declared.raw.RawPass.{RawPass}
 use Rattle.sour_reader.specs.declared.raw.RawPass.TheVariants.{Inject, Constprop, Unreachable, Inline, Move, Hoist, Compose, Prune}
 use Rattle.sour_reader.specs.Literal.{SpellsNumber, SpellsLiteral}
-use Rattle.sour_reader.specs.Name.{is_reserved}
+use Rattle.sour_syntax.specs.Name.{is_reserved}
 use Rattle.sour_reader.specs.Label.{IsLabel}
 use Rattle.sour_reader.specs.Plan.{ArePath, SpellsPath, SpellsAnchor, SpellsSide, SpellsPredicate, SpellsPoint, start_spelling, SpellsPass, SpellsPasses}
 use Rattle.sour_reader.specs.Separators.{HasNone, EndsPath, BeginsAnchor, SpellsSomePasses}

@@ -4,7 +4,7 @@ use Rattle.std.specs.Prelude.{codes}
 use Rattle.sour_syntax.specs.declared.plan.Start.{Start}
 use Rattle.sour_reader.specs.declared.raw.RawPass.{RawPass}
 use Rattle.sour_reader.specs.declared.raw.RawPlanJob.{RawPlanJob}
-use Rattle.sour_reader.specs.Name.{IsName}
+use Rattle.sour_syntax.specs.Name.{IsName}
 use Rattle.sour_reader.specs.Plan.{start_spelling, SpellsPasses, SpellsPlanJob, plan_heading}
 use Rattle.sour_reader.specs.Limits.{IsShortJob}
 use Rattle.sour_reader.specs.Ahead.{AheadView, AreLeft, ReadsAs, ReadsAsNone, OneLine, EachUpTo}

@@ -14,7 +14,7 @@ use Rattle.sour_reader.specs.declared.raw.RawSimple.{RawSimple}
 use Rattle.sour_reader.specs.declared.raw.RawSimple.TheVariants.{Lit, Name}
 use Rattle.sour_reader.specs.declared.raw.RawExpr.{RawExpr}
 use Rattle.sour_reader.specs.declared.raw.RawExpr.TheVariants.{Plain, Cell, Length, Not, Binary}
-use Rattle.sour_reader.specs.Name.{IsName}
+use Rattle.sour_syntax.specs.Name.{IsName}
 use Rattle.sour_reader.specs.Literal.{SpellsNumber, SpellsLiteral}
 use Rattle.sour_reader.specs.Operator.{op_spelling}
 use Rattle.sour_reader.specs.Expression.{SpellsSimple, SpellsExpr}

@@ -4,7 +4,7 @@ use Rattle.sour_reader.specs.declared.raw.RawPlace.{RawPlace}
 use Rattle.sour_reader.specs.declared.raw.RawBind.{RawBind}
 use Rattle.sour_reader.specs.declared.raw.RawExtra.{RawExtra}
 use Rattle.sour_reader.specs.declared.raw.RawExit.{RawExit}
-use Rattle.sour_reader.specs.Name.{IsName}
+use Rattle.sour_syntax.specs.Name.{IsName}
 use Rattle.sour_reader.specs.Label.{IsLabel}
 use Rattle.sour_reader.specs.Expression.{SpellsExpr, SpellsListed}
 

@@ -5,7 +5,7 @@ use Rattle.sour_reader.specs.declared.raw.RawSimple.TheVariants as simple
 use Rattle.sour_reader.specs.declared.raw.RawExpr.{RawExpr}
 use Rattle.sour_reader.specs.declared.raw.RawExpr.TheVariants as expr
 use Rattle.sour_reader.specs.Literal.{SpellsLiteral}
-use Rattle.sour_reader.specs.Name.{IsName}
+use Rattle.sour_syntax.specs.Name.{IsName}
 use Rattle.sour_reader.specs.Operator.{op_spelling}
 
 -- the tokens spell the operand

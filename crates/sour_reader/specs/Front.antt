@@ -7,7 +7,7 @@ use Rattle.sour_reader.specs.declared.raw.RawFunction.{RawFunction}
 use Rattle.sour_reader.specs.declared.raw.RawPlanJob.{RawPlanJob}
 use Rattle.sour_reader.specs.declared.raw.RawInput.{RawInput}
 use Rattle.sour_reader.specs.declared.heading.FunctionHeading.{FunctionHeading}
-use Rattle.sour_reader.specs.Name.{IsName}
+use Rattle.sour_syntax.specs.Name.{IsName}
 use Rattle.sour_reader.specs.Mentions.{variables_of}
 use Rattle.sour_reader.specs.Instruction.{SpellsLine}
 use Rattle.sour_reader.specs.Plan.{SpellsPlanJob, plan_heading}

@@ -3,7 +3,7 @@ use Rattle.std.specs.Prelude.{◌≡◌, ℕ, List, [], ◌∷◌, ◌++◌, Opt
 use Rattle.sour_reader.specs.declared.raw.RawInstr.{RawInstr}
 use Rattle.sour_reader.specs.declared.raw.RawInstr.TheVariants.{Var, Drop, Assign, ArrayLength, ArrayList, Store, Print, Read, Branch, Goto, Call, Return, Stop, Assume}
 use Rattle.sour_reader.specs.declared.raw.RawLine.{RawLine}
-use Rattle.sour_reader.specs.Name.{IsName}
+use Rattle.sour_syntax.specs.Name.{IsName}
 use Rattle.sour_reader.specs.Label.{IsLabel}
 use Rattle.sour_reader.specs.Expression.{SpellsSimple, SpellsExpr, SpellsEach}
 use Rattle.sour_reader.specs.Exit.{SpellsExit}

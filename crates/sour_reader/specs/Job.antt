@@ -6,7 +6,7 @@ use Rattle.sour_reader.specs.declared.raw.RawLine.{RawLine}
 use Rattle.sour_reader.specs.declared.raw.RawVersion.{RawVersion}
 use Rattle.sour_reader.specs.declared.raw.RawFunction.{RawFunction}
 use Rattle.sour_reader.specs.declared.raw.RawJob.{RawJob}
-use Rattle.sour_reader.specs.Name.{IsName}
+use Rattle.sour_syntax.specs.Name.{IsName}
 use Rattle.sour_reader.specs.Instruction.{SpellsLine}
 use Rattle.sour_reader.specs.Plan.{SpellsPlan}
 use Rattle.sour_reader.specs.Inputs.{SpellsInputs}

@@ -1,7 +1,7 @@
 -- Which words are labels where an instruction names them.
 use Rattle.std.specs.Prelude.{◌≡◌, ◌⊎◌, ℕ, List, [], ◌∷◌}
 use Rattle.sour_tokens.specs.Token.{IsDigits}
-use Rattle.sour_reader.specs.Name.{IsName}
+use Rattle.sour_syntax.specs.Name.{IsName}
 
 -- a decimal number without leading zeros
 abbrev pub IsDecimal : List ℕ → Type 0

@@ -1,4 +1,3 @@
-pub mod Name
 pub mod Literal
 pub mod Operator
 pub mod Operand

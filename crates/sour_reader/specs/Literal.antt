@@ -3,7 +3,7 @@ use Rattle.std.specs.Prelude.{◌≡◌, ℕ, ℤ, pos, neg_ℤ, true, false, Li
 use Rattle.std.specs.Int.{w64}
 use Rattle.std.specs.Str.Parse.{digits_value}
 use Rattle.sour_tokens.specs.Token.{IsDigits}
-use Rattle.sour_reader.specs.Name.{IsName}
+use Rattle.sour_syntax.specs.Name.{IsName}
 use Rattle.sour_reader.specs.declared.raw.RawLiteral.{RawLiteral}
 use Rattle.sour_reader.specs.declared.raw.RawLiteral.TheVariants.{Number, Truth, Nil, Function}
 

@@ -6,7 +6,7 @@ use Rattle.sour_tokens.specs.Token.{spelling}
 use Rattle.sour_reader.specs.declared.raw.RawSimple.{RawSimple}
 use Rattle.sour_reader.specs.declared.raw.RawExpr.{RawExpr}
 use Rattle.sour_reader.specs.declared.raw.RawExpr.TheVariants.{Plain, Cell, Length, Not, Binary}
-use Rattle.sour_reader.specs.Name.{IsName}
+use Rattle.sour_syntax.specs.Name.{IsName}
 use Rattle.sour_reader.specs.Operator.{op_spelling}
 use Rattle.sour_reader.specs.declared.raw.RawExtra.{RawExtra}
 use Rattle.sour_reader.specs.Expression.{SpellsSimple, SpellsExpr, SpellsListed}

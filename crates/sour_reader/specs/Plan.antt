@@ -11,7 +11,7 @@ use Rattle.sour_reader.specs.declared.raw.RawPass.{RawPass}
 use Rattle.sour_reader.specs.declared.raw.RawPass.TheVariants.{Inject, Constprop, Unreachable, Inline, Move, Hoist, Compose, Prune}
 use Rattle.sour_reader.specs.declared.raw.RawPlanJob.{RawPlanJob}
 use Rattle.sour_reader.specs.Literal.{SpellsLiteral}
-use Rattle.sour_reader.specs.Name.{IsName}
+use Rattle.sour_syntax.specs.Name.{IsName}
 use Rattle.sour_reader.specs.Label.{IsLabel}
 
 -- a part of a path behind its first label: a label or digits

@@ -5,7 +5,7 @@ ghost use Rattle.std.specs.Bool.{OnTrue, OnFalse};
 ghost use Rattle.std.specs.List.{AllByRecursion};
 ghost use Rattle.std.specs.Option.{option_copied};
 ghost use Rattle.sour_tokens.specs.Token.{spelling, IsOfItsKind};
-ghost use Rattle.sour_reader.specs.Name.{IsName};
+ghost use Rattle.sour_syntax.specs.Name.{IsName};
 ghost use Rattle.sour_reader.specs.Plan.{plan_heading};
 ghost use Rattle.sour_reader.specs.Inputs.{inputs_heading};
 ghost use Rattle.sour_reader.specs.Job.{function_end};

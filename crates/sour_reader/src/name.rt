@@ -3,7 +3,7 @@
 ghost use Rattle.std.specs.Prelude.{◌≡◌, ◌↔◌, ℕ, List, Some, IsTrue};
 ghost use Rattle.std.specs.Option.{option_copied};
 ghost use Rattle.sour_tokens.specs.Token.{spelling, IsOfItsKind, IsWord};
-ghost use Rattle.sour_reader.specs.Name.{IsName, is_reserved};
+ghost use Rattle.sour_syntax.specs.Name.{IsName, is_reserved};
 
 use sour_tokens::Token;
 

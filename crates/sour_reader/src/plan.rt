@@ -5,7 +5,7 @@ ghost use Rattle.std.specs.List.{AllByRecursion};
 ghost use Rattle.sour_tokens.specs.Token.{spelling, IsOfItsKind};
 ghost use Rattle.sour_syntax.specs.declared.plan.Start.{Start};
 ghost use Rattle.sour_reader.specs.declared.raw.RawPlanJob.{RawPlanJob};
-ghost use Rattle.sour_reader.specs.Name.{IsName};
+ghost use Rattle.sour_syntax.specs.Name.{IsName};
 ghost use Rattle.sour_reader.specs.Plan.{start_spelling, SpellsPlanJob};
 ghost use Rattle.sour_reader.specs.Ahead.{ReadsAs, ReadsAsNone};
 ghost use Rattle.sour_reader.specs.Front.{IsPlanJob, HasEachJob, HasPlan};

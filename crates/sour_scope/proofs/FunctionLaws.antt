@@ -70,6 +70,7 @@ module _ (names : List FunctionNames) where
       → IsFunction all number (function_of names number function)
   is_function all number function text same spelled short accepted exits =
       let count : length (map (version_of names number function.parameters) function.versions) ≡ length function.versions = length-map function.versions (version_of names number function.parameters) in record {
+        name = spelled.name;
         some = map_some (version_of names number function.parameters) function.versions spelled.some;
         names = versions_differ names number function.parameters function.versions accepted.versions;
         parameters = function.parameters;

@@ -2,7 +2,9 @@ pub mod ListLaws
 pub mod NameLaws
 pub mod VariableLaws
 pub mod VariableNames
-pub mod PlainNames
+pub mod WrittenNames
+pub mod MentionLaws
+pub mod OrderLaws
 pub mod OutlineLaws
 pub mod LiteralLaws
 pub mod LineLaws

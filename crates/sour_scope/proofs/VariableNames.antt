@@ -50,7 +50,7 @@ behind_absent (first ∷ names) name others differ =
     ((λ same. (AllByRecursion-parts (λ other. other ≢ first) names (name ∷ others) differ.0).1.0 (sym same)), behind_absent names name others differ.1)
 
 -- names that all differ are put behind one another
-with_names-all_new : (names others : List (List ℕ)) → NamesDiffer (names ++ others) → with_names names others ≡ names ++ others
+pub with_names-all_new : (names others : List (List ℕ)) → NamesDiffer (names ++ others) → with_names names others ≡ names ++ others
 with_names-all_new names [] differ = sym (append-nil names)
 with_names-all_new names (name ∷ others) differ =
     let new : with_name names name ≡ names ++ name ∷ [] =
@@ -59,7 +59,7 @@ with_names-all_new names (name ∷ others) differ =
     ap (λ zs. with_names zs others) new ∙ with_names-all_new (names ++ name ∷ []) others (subst NamesDiffer (sym together) differ) ∙ together
 
 -- what stands in front, whatever is put behind
-record Begins (front whole : List (List ℕ)) : Type 0 where
+pub record Begins (front whole : List (List ℕ)) : Type 0 where
   pub others : List (List ℕ)
   pub is : whole ≡ front ++ others
 
@@ -69,21 +69,21 @@ chosen-begins names name true = record { others = []; is = sym (append-nil names
 chosen-begins names name false = record { others = name ∷ []; is = refl }
 
 -- what begins what begins a list begins the list
-further : (front middle whole : List (List ℕ)) → Begins front middle → Begins middle whole → Begins front whole
+pub further : (front middle whole : List (List ℕ)) → Begins front middle → Begins middle whole → Begins front whole
 further front middle whole first second = record {
   others = first.others ++ second.others;
   is = second.is ∙ ap (λ zs. zs ++ second.others) first.is ∙ append_assoc front first.others second.others;
 }
 
 -- names stay in front when others are put behind them
-with_names-begins : (names others : List (List ℕ)) → Begins names (with_names names others)
+pub with_names-begins : (names others : List (List ℕ)) → Begins names (with_names names others)
 with_names-begins names [] = record { others = []; is = sym (append-nil names) }
 with_names-begins names (name ∷ others) =
     further names (with_name names name) (with_names (with_name names name) others)
     (chosen-begins names name (list_any (bytes_eq name) names)) (with_names-begins (with_name names name) others)
 
 -- and they stay in front when the names that lines mention are put behind them
-with_lines-begins : (names : List (List ℕ)) (lines : List RawLine) → Begins names (with_lines names lines)
+pub with_lines-begins : (names : List (List ℕ)) (lines : List RawLine) → Begins names (with_lines names lines)
 with_lines-begins names [] = record { others = []; is = sym (append-nil names) }
 with_lines-begins names (line ∷ lines) =
     further names (with_names names (instr_names line.instr)) (with_lines (with_names names (instr_names line.instr)) lines)

@@ -1,5 +1,5 @@
 -- The versions so far, the body of one, and the versions that are made of accepted ones.
-use Rattle.std.proofs.Common.{◌≡◌, ◌≤◌, ◌<◌, ◌+◌, ◌^◌, ℕ, suc, List, [], ◌∷◌, Option, None, Some, length, map, refl, sym, ap, ◌∙◌, subst, arith}
+use Rattle.std.proofs.Common.{◌≡◌, ◌⊎◌, inl, inr, ◌≤◌, ℕ, suc, List, [], ◌∷◌, Option, None, Some, length, map, refl, sym, ap, ◌∙◌, subst}
 use Rattle.std.specs.List.{AllByRecursion}
 use Rattle.std.proofs.lemmas.Simd.{map-map}
 use Rattle.std.proofs.lemmas.List.{length-map}
@@ -8,8 +8,10 @@ use Rattle.sour_syntax.specs.declared.instruction.Line.{Line}
 use Rattle.sour_syntax.specs.BodyView.{BodyView}
 use Rattle.sour_syntax.specs.declared.program.Version.{Version}
 use Rattle.sour_syntax.specs.declared.program.Function.{Function}
+use Rattle.sour_syntax.specs.Labels.{automatic_label}
 use Rattle.sour_syntax.specs.Limits.{IsShortInstr}
-use Rattle.sour_syntax.specs.Program.{NamesDiffer, HasLiterals, IsPlainName, IsVersion}
+use Rattle.sour_syntax.specs.Name.{IsName}
+use Rattle.sour_syntax.specs.Program.{NamesDiffer, HasLiterals, HasLabels, IsVersion}
 use Rattle.sour_syntax.specs.Targets.{HasExits}
 use Rattle.sour_reader.specs.declared.raw.RawInstr.{RawInstr}
 use Rattle.sour_reader.specs.declared.raw.RawInstr.TheVariants.{Var, Drop, Assign, ArrayLength, ArrayList, Store, Print, Read, Branch, Goto, Call, Return, Stop, Assume}
@@ -19,14 +21,14 @@ use Rattle.sour_reader.specs.Instruction.{SpellsLabelled}
 use Rattle.sour_reader.specs.Job.{SpellsLines, SpellsVersions}
 use Rattle.sour_reader.specs.Limits.{IsShortVersion, HasShortInstrs, IsShortInstr as IsShortRaw}
 use Rattle.sour_reader.specs.Mentions.{variables_of}
-use Rattle.sour_reader.specs.Name.{IsName}
 use Rattle.sour_scope.specs.declared.outline.FunctionNames.{FunctionNames}
 use Rattle.sour_scope.specs.Outline.{own_names}
 use Rattle.sour_scope.specs.Numbered.{expr_of, extra_of, instr_of, label_of, lines_of, body_of, version_of}
 use Rattle.sour_scope.specs.Checked.{IsAcceptedVersion}
 use Rattle.sour_scope.proofs.LineLaws.{length-lines_of}
-use Rattle.sour_scope.proofs.PlainNames.{plain_label, plain_variables}
+use Rattle.sour_scope.proofs.OrderLaws.{variables_in_order}
 use Rattle.sour_scope.proofs.VariableNames.{variables_differ, parameters_first}
+use Rattle.sour_scope.proofs.WrittenNames.{named_variables}
 
 -- the name of a version
 abbrev pub version_name : RawVersion → List ℕ
@@ -50,20 +52,19 @@ body_is names function parameters own variables raw first second count lines cou
     ap (λ n. made n variables lines) count_is ∙ ap (λ v. made (length parameters) v lines) (variables_are ∙ own_all)
     ∙ ap (made (length parameters) all) (lines_are ∙ ap (λ v. lines_of names v 0 second) own_all ∙ ap (lines_of names all 0) second_is)
 
--- the labels of lines that are spelled are plain
-label_plain : (label : Option (List ℕ)) (instr : RawInstr) (tokens : List (List ℕ)) (place : ℕ) → place < 2 ^ 64 → SpellsLabelled label instr tokens → IsPlainName (label_of place label)
-label_plain None instr tokens place small spells = plain_label None instr tokens place small spells
-label_plain (Some label) instr tokens place small spells = plain_label (Some label) instr tokens place small spells
+-- the label of a line that is spelled is a name where it is written, and else the automatic one of its place
+label_named : (label : Option (List ℕ)) (instr : RawInstr) (tokens : List (List ℕ)) (place : ℕ) → SpellsLabelled label instr tokens
+    → IsName (label_of place label) ⊎ (label_of place label ≡ automatic_label place)
+label_named None instr tokens place spells = inr refl
+label_named (Some label) instr tokens place (rest, whole, name, spells) = inl name
 
--- lines that are made of spelled ones have plain labels, as long as their places fit in 64 bits
-labels_plain : (names : List FunctionNames) (own : List (List ℕ)) (place : ℕ) (lines : List RawLine) (text : List (List (List ℕ))) → place + length lines < 2 ^ 64 → SpellsLines lines text
-    → AllByRecursion (λ (line : Line). IsPlainName line.label) (lines_of names own place lines)
-labels_plain names own place [] text small spells = tt
-labels_plain names own place (line ∷ lines) [] small spells = absurd spells
-labels_plain names own place (line ∷ lines) (tokens ∷ text) small spells = (
-  label_plain line.label line.instr tokens place (omega arith) spells.0,
-  labels_plain names own (suc place) lines text (omega arith) spells.1,
-)
+-- lines that are made of spelled ones have such labels
+labels_named : (names : List FunctionNames) (own : List (List ℕ)) (place : ℕ) (lines : List RawLine) (text : List (List (List ℕ))) → SpellsLines lines text
+    → HasLabels place (lines_of names own place lines)
+labels_named names own place [] text spells = tt
+labels_named names own place (line ∷ lines) [] spells = absurd spells
+labels_named names own place (line ∷ lines) (tokens ∷ text) spells =
+    (label_named line.label line.instr tokens place spells.0, labels_named names own (suc place) lines text spells.1)
 
 -- an instruction is as short as it is written
 instr_short : (names : List FunctionNames) (own : List (List ℕ)) (instr : RawInstr) → IsShortRaw instr → IsShortInstr (instr_of names own instr)
@@ -91,24 +92,25 @@ instrs_short : (names : List FunctionNames) (own : List (List ℕ)) (place : ℕ
 instrs_short names own place [] short = tt
 instrs_short names own place (line ∷ lines) short = (instr_short names own line.instr short.0, instrs_short names own (suc place) lines short.1)
 
-module _ (functions : List Function) (names : List FunctionNames) (number : ℕ) (parameters : List (List ℕ)) (count : length names ≡ length functions) (differ : NamesDiffer parameters) (plain : AllByRecursion IsName parameters) where
+module _ (functions : List Function) (names : List FunctionNames) (number : ℕ) (parameters : List (List ℕ)) (count : length names ≡ length functions) (differ : NamesDiffer parameters) (named : AllByRecursion IsName parameters) where
   -- the version that is made of an accepted one
-  is_version : (version : RawVersion) (text : List (List (List ℕ))) → SpellsLines version.lines text → IsShortVersion parameters version → IsAcceptedVersion names number parameters version
+  is_version : (version : RawVersion) (text : List (List (List ℕ))) → IsName version.name → SpellsLines version.lines text → IsShortVersion parameters version → IsAcceptedVersion names number parameters version
       → HasExits functions [] (body_of names number parameters version.lines) → IsVersion functions number parameters (version_of names number parameters version)
-  is_version version text spells short accepted exits =
+  is_version version text name spells short accepted exits =
       let own : List (List ℕ) = variables_of parameters version.lines in
       let lines : List Line = lines_of names own 0 version.lines in
       let many : length lines ≡ length version.lines = length-lines_of names own 0 version.lines in
-      let few : length version.lines ≤ 4096 = short.lines in
       let first = parameters_first parameters version.lines differ in record {
+        name = name;
         body = accepted.body;
         numbered = refl;
         takes = refl;
         others = first.0;
         variables = first.1;
+        order = variables_in_order names parameters version.lines differ;
         differ = variables_differ parameters version.lines;
-        names = plain_variables parameters version.lines text plain spells;
-        labels = labels_plain names own 0 version.lines text (omega arith) spells;
+        names = named_variables parameters version.lines text named spells;
+        labels = labels_named names own 0 version.lines text spells;
         literals = subst (λ n. HasLiterals n lines) count accepted.literals;
         exits = exits;
         lines = subst (λ n. n ≤ 4096) (sym many) short.lines;
@@ -123,7 +125,7 @@ module _ (functions : List Function) (names : List FunctionNames) (number : ℕ)
       → AllByRecursion (IsVersion functions number parameters) (map (version_of names number parameters) versions)
   are_versions [] text spells short all exits = tt
   are_versions (version ∷ versions) text (front, rest, whole, (lines, heading, name, spelled), others) short all exits =
-      (is_version version lines spelled short.0 all.0 exits.0, are_versions versions rest others short.1 all.1 exits.1)
+      (is_version version lines name spelled short.0 all.0 exits.0, are_versions versions rest others short.1 all.1 exits.1)
 
 -- their names differ as before
 pub versions_differ : (names : List FunctionNames) (number : ℕ) (parameters : List (List ℕ)) (versions : List RawVersion) → NamesDiffer (map version_name versions)

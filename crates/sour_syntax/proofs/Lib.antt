@@ -13,3 +13,4 @@ pub mod ScopeLists
 pub mod NamedScopes
 pub mod NoExits
 pub mod AutomaticLabels
+pub mod PlainNames

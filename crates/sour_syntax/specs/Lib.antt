@@ -1,4 +1,5 @@
 pub mod Trap
+pub mod Name
 pub mod Names
 pub mod BodyView
 pub mod Labels

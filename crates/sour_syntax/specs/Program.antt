@@ -1,14 +1,18 @@
 -- What holds of every program that a text means.
-use Rattle.std.specs.Prelude.{◌≡◌, ◌≢◌, ◌≤◌, ◌||◌, ℕ, suc, IsTrue, List, [], ◌∷◌, ◌++◌, Some, length, map, nat_eq, slice_get, codes}
+use Rattle.std.specs.Prelude.{◌≡◌, ◌≢◌, ◌<◌, ◌≤◌, ◌||◌, ◌⊎◌, ℕ, suc, IsTrue, List, [], ◌∷◌, ◌++◌, Some, length, map, nat_eq, slice_get, codes}
 use Rattle.std.specs.Char.{is_ascii_alphabetic}
 use Rattle.std.specs.List.{AllByRecursion}
 use Rattle.sour_syntax.specs.declared.literal.FunId.{FunId}
+use Rattle.sour_syntax.specs.declared.literal.VarId.{VarId}
 use Rattle.sour_syntax.specs.declared.program.Function.{Function}
 use Rattle.sour_syntax.specs.declared.program.Version.{Version}
 use Rattle.sour_syntax.specs.declared.instruction.Line.{Line}
 use Rattle.sour_syntax.specs.Body.{IsBody}
+use Rattle.sour_syntax.specs.Labels.{automatic_label}
 use Rattle.sour_syntax.specs.Literals.{IsLiteral, literals_of}
 use Rattle.sour_syntax.specs.Limits.{IsShortInstr}
+use Rattle.sour_syntax.specs.Name.{IsName}
+use Rattle.sour_syntax.specs.Scopes.{mentioned}
 use Rattle.sour_syntax.specs.Targets.{HasExits}
 
 -- what contracts see of a program
@@ -35,17 +39,36 @@ pub record IsPlainName (name : List ℕ) : Type 0 where
   pub begins : BeginsPlain name
   pub whole : AllByRecursion (λ byte. byte ≢ 47) name
 
+-- each label is a name, or the automatic one of its line, where the first of the lines stands at this place
+abbrev pub HasLabels : ℕ → List Line → Type 0
+HasLabels place [] = Unit {0}
+HasLabels place (line ∷ lines) = (IsName line.label ⊎ (line.label ≡ automatic_label place)) × HasLabels (suc place) lines
+
+-- the variables that lines mention, in the order in which they are written
+abbrev pub mentioned_in : List Line → List VarId
+mentioned_in [] = []
+mentioned_in (line ∷ lines) = mentioned line.instr ++ mentioned_in lines
+
+-- each of the variables has a number below the count so far, or exactly that count, which then grows by one, and in the end there are so many
+abbrev pub AreNumberedInOrder : ℕ → List VarId → ℕ → Type 0
+AreNumberedInOrder count [] all = count ≡ all
+AreNumberedInOrder count (x ∷ xs) all =
+    ((x.0 < count) × AreNumberedInOrder count xs all) ⊎ ((x.0 ≡ count) × AreNumberedInOrder (suc count) xs all)
+
 -- a version of the function that has this number and these parameters, among these functions
 pub record IsVersion (functions : List Function) (number : ℕ) (parameters : List (List ℕ)) (version : Version) : Type 0 where
+  pub name : IsName version.name
   pub body : IsBody version.body
   pub numbered : version.body.function.0 ≡ number
   -- the parameters come first among the variables
   pub takes : version.body.parameters ≡ length parameters
   pub others : List (List ℕ)
   pub variables : version.body.variables ≡ parameters ++ others
+  -- and behind them each has the next number where a line first mentions it
+  pub order : AreNumberedInOrder version.body.parameters (mentioned_in version.body.lines) (length version.body.variables)
   pub differ : NamesDiffer version.body.variables
-  pub names : AllByRecursion IsPlainName version.body.variables
-  pub labels : AllByRecursion (λ line. IsPlainName line.label) version.body.lines
+  pub names : AllByRecursion IsName version.body.variables
+  pub labels : HasLabels 0 version.body.lines
   pub literals : HasLiterals (length functions) version.body.lines
   -- an exit leads to a version of the text
   pub exits : HasExits functions [] version.body
@@ -56,6 +79,7 @@ pub record IsVersion (functions : List Function) (number : ℕ) (parameters : Li
 
 -- the function that has this number, among these functions: it has a version, its versions have different names, and all have as many parameters
 pub record IsFunction (functions : List Function) (number : ℕ) (function : Function) : Type 0 where
+  pub name : IsName function.name
   pub some : ¬ (function.versions ≡ [])
   pub names : NamesDiffer (map (λ (version : Version). version.name) function.versions)
   pub parameters : List (List ℕ)

@@ -152,8 +152,8 @@ fn leaves_where_a_predicate_is_false(rt: HostRuntime) -> Result<(), Fail> {
 fn keeps_where_its_exits_lead(rt: HostRuntime) -> Result<(), Fail> {
     let fails = Literal::Truth(false);
     let program = assuming(rt.alloc(), fails, fails)?.expect(&rt, "a body");
-    assert_eq!(rt; program.exit_place(FunId(0), 0, 1, 0), Some(0));
-    assert_eq!(rt; program.exit_place(FunId(0), 0, 1, 1), None);
+    assert_eq!(rt; program.exit_place(FunId(0), 0, 3, 0), Some(0));
+    assert_eq!(rt; program.exit_place(FunId(0), 0, 3, 1), None);
     Ok(())
 }
 

@@ -30,5 +30,5 @@ of_functions-program-requires c =
     let versions : c.from_vec.result ≡ version ∷ [] = c.from_vec.ensures ∙ c.in_ok-vec.ensures.items in
     let functions : c.from_vec-functions.result ≡ function ∷ [] = c.from_vec-functions.ensures ∙ c.in_ok-vec-2.ensures.items in
     subst Program (sym functions)
-    (IsProgram-main function version versions c.requires.parameters c.requires.variables c.requires.start
-    (c.from_bytes-2.ensures ∙ c.in_ok-from_slice.ensures.items) body c.requires.function c.requires.each c.requires.lines)
+    (IsProgram-main function version versions c.requires.parameters c.requires.variables c.requires.main
+    (c.from_bytes-2.ensures ∙ c.in_ok-main.ensures.items) (c.from_bytes.ensures ∙ c.in_ok-base.ensures.items) body c.requires.function c.requires.lines)

@@ -1,13 +1,8 @@
--- The names of a text begin with a letter or `_`, and have no `/`.
-use Rattle.std.proofs.Common.{◌≡◌, ◌≢◌, ◌^◌, ◌<◌, ℕ, Bool, true, false, cond, List, [], ◌∷◌, ◌++◌, Option, None, Some, sym, ap, ◌∙◌}
-use Rattle.std.specs.Prelude.{MatchOption}
-use Rattle.std.specs.List.{AllByRecursion, AllPass, list_any}
+-- The variables of a version that is spelled have names.
+use Rattle.std.proofs.Common.{ℕ, Bool, true, false, cond, List, [], ◌∷◌, ◌++◌, Option, None, Some}
+use Rattle.std.specs.List.{AllByRecursion, list_any}
 use Rattle.std.specs.Str.{bytes_eq}
-use Rattle.std.proofs.lemmas.List.Elements.{All-head, All-tail}
-use Rattle.sour_tokens.specs.Byte.{begins_word, continues_word}
-use Rattle.sour_syntax.specs.Labels.{automatic_label}
-use Rattle.sour_syntax.specs.Program.{IsPlainName}
-use Rattle.sour_syntax.proofs.AutomaticLabels.{plain_automatic}
+use Rattle.sour_syntax.specs.Name.{IsName}
 use Rattle.sour_syntax.proofs.Everywhere.{AllByRecursion-append}
 use Rattle.sour_reader.specs.declared.raw.RawSimple.{RawSimple}
 use Rattle.sour_reader.specs.declared.raw.RawSimple.TheVariants as simple
@@ -24,37 +19,6 @@ use Rattle.sour_reader.specs.Expression.{SpellsSimple, SpellsExpr, SpellsEach}
 use Rattle.sour_reader.specs.Instruction.{SpellsInstr, SpellsLabelled}
 use Rattle.sour_reader.specs.Job.{SpellsLines}
 use Rattle.sour_reader.specs.Mentions.{simple_names, expr_names, each_names, all_names, bind_names, map_names, extra_names, exit_names, instr_names, with_name, with_names, with_lines, variables_of}
-use Rattle.sour_reader.specs.Name.{IsName}
-
--- a byte with which a word goes on isn't `/`
-not_slash : (byte : ℕ) → continues_word byte ≡ true → byte ≢ 47
-not_slash byte goes same = let at : continues_word 47 ≡ true = ap continues_word (sym same) ∙ goes in cc
-
--- what goes on in a word has no `/`
-none_slash : (bytes : List ℕ) → AllPass continues_word bytes → AllByRecursion (λ byte. byte ≢ 47) bytes
-none_slash [] all = tt
-none_slash (byte ∷ bytes) all =
-    (not_slash byte (All-head (λ b. continues_word b ≡ true) byte bytes all), none_slash bytes (All-tail (λ b. continues_word b ≡ true) byte bytes all))
-
--- neither is what a word begins with
-begins_not_slash : (byte : ℕ) → begins_word byte ≡ true → byte ≢ 47
-begins_not_slash byte goes same = let at : begins_word 47 ≡ true = ap begins_word (sym same) ∙ goes in cc
-
--- a name is plain
-pub IsPlainName-name : (name : List ℕ) → IsName name → IsPlainName name
-IsPlainName-name [] is = absurd is.word
-IsPlainName-name (byte ∷ bytes) is = record {
-  begins = is.word.0;
-  whole = (
-    begins_not_slash byte is.word.0,
-    none_slash bytes is.word.1,
-  );
-}
-
--- names are plain
-pub plain_names : (names : List (List ℕ)) → AllByRecursion IsName names → AllByRecursion IsPlainName names
-plain_names [] all = tt
-plain_names (name ∷ names) all = (IsPlainName-name name all.0, plain_names names all.1)
 
 -- what holds of the names in an operand, where it is spelled
 names_of_simple : (a : RawSimple) (tokens : List (List ℕ)) → SpellsSimple a tokens → AllByRecursion IsName (simple_names a)
@@ -115,7 +79,7 @@ names_of_instr Stop tokens spells = tt
 names_of_instr (Assume es exit) tokens (each, back, whole, first, second) =
     AllByRecursion-append IsName (each_names es) (exit_names exit) (names_of_each es each first) (names_of_exit exit back second)
 
--- the same behind a label, and the label is a name
+-- the same behind a label
 names_of_labelled : (label : Option (List ℕ)) (instr : RawInstr) (tokens : List (List ℕ)) → SpellsLabelled label instr tokens → AllByRecursion IsName (instr_names instr)
 names_of_labelled None instr tokens spells = names_of_instr instr tokens spells
 names_of_labelled (Some label) instr tokens (rest, whole, name, spells) = names_of_instr instr rest spells
@@ -141,15 +105,8 @@ with_lines-names names (line ∷ lines) (tokens ∷ text) spells all =
     with_lines-names (with_names names (instr_names line.instr)) lines text spells.1
     (with_names-all IsName names (instr_names line.instr) all (names_of_labelled line.label line.instr tokens spells.0))
 
--- the variables of a version that is spelled have plain names
-pub plain_variables : (parameters : List (List ℕ)) (lines : List RawLine) (text : List (List (List ℕ))) → AllByRecursion IsName parameters
-    → SpellsLines lines text → AllByRecursion IsPlainName (variables_of parameters lines)
-plain_variables parameters lines text names spells =
-    plain_names (variables_of parameters lines)
-    (with_lines-names (with_names [] parameters) lines text spells (with_names-all IsName [] parameters tt names))
-
--- a label that is written is plain, and so is an automatic one
-pub plain_label : (label : Option (List ℕ)) (instr : RawInstr) (tokens : List (List ℕ)) (place : ℕ) → place < 2 ^ 64 → SpellsLabelled label instr tokens
-    → MatchOption label (IsPlainName (automatic_label place)) IsPlainName
-plain_label None instr tokens place small spells = plain_automatic place small
-plain_label (Some label) instr tokens place small (rest, whole, name, spells) = IsPlainName-name label name
+-- the variables of a version that is spelled have names
+pub named_variables : (parameters : List (List ℕ)) (lines : List RawLine) (text : List (List (List ℕ))) → AllByRecursion IsName parameters
+    → SpellsLines lines text → AllByRecursion IsName (variables_of parameters lines)
+named_variables parameters lines text names spells =
+    with_lines-names (with_names [] parameters) lines text spells (with_names-all IsName [] parameters tt names)
