@@ -12,7 +12,7 @@ use Rattle.sour_syntax.specs.declared.literal.VarId.{VarId}
 use Rattle.sour_syntax.specs.BodyView.{BodyView}
 use Rattle.sour_syntax.specs.Labels.{LabelsDiffer, label_at}
 use Rattle.sour_syntax.specs.Program.{ProgramView, IsProgram}
-use Rattle.sour_syntax.specs.Scopes.{following_labels, scope_after}
+use Rattle.sour_syntax.specs.Scopes.{following_labels, scope_after, HasScopes, MentionsItsVariables}
 use Rattle.sour_syntax.specs.Terminator.{IsTerminator, EndsInTerminator}
 use Rattle.sour_syntax.proofs.Everywhere.{AllByRecursion-append}
 use Rattle.sour_syntax.proofs.LabelPlaces.{EndsInTerminator-next}
@@ -29,7 +29,7 @@ use Rattle.sour_machine.specs.Frame.{code_of, frame_lines, frame_at, StandsAtLin
 use Rattle.sour_machine.specs.Instruction.{IsReady, ActsAs, IsCrossing, LeadsOut, EntersOr, CrossesTo, StandsCrossing}
 use Rattle.sour_machine.specs.Moment.{state_at, run_at, Stands}
 use Rattle.sour_machine.specs.Run.{GoesOn, is_call, top_calls, entered_by}
-use Rattle.sour_machine.proofs.Advances.{IsAt, IsAt-lines, IsLineAt-body, body_of-runs, step-state_at, top_calls-line}
+use Rattle.sour_machine.proofs.Advances.{IsAt, IsAt-lines, IsReady-line, IsLineAt-body, body_of-runs, step-state_at, top_calls-line}
 use Rattle.sour_machine.proofs.Instructions.{turns-crosses}
 use Rattle.sour_machine.proofs.RunLaws.{entered-none, entered-ended, entered-one, GoesOn-one, GoesOn-on}
 
@@ -175,24 +175,34 @@ pub GoesOn-crossed : (program : ProgramView) (input : List Literal) (old mid new
 GoesOn-crossed program input old mid new line at acts crossed on =
     GoesOn-on program input old mid new on (GoesOn-one program input mid new (step-state_at program input mid line at ∙ sym acts) crossed.counted)
 
--- the line that enters a frame or leaves one, as the code reads it
-pub record ReadsCrossing (program : ProgramView) (moment : Moment) (body : BodyView) (line : Line) : Type 0 where
+-- the line that enters a frame or leaves one, as the code reads it: it is ready, and there are turns left for it
+pub record ReadsCrossing (program : ProgramView) (budget : ℕ) (moment : Moment) (line : Line) : Type 0 where
   pub at : IsAt program moment line
-  pub runs : body_of program (code_of moment.frame.code) ≡ body
+  pub stands : StandsAtLine program moment.frame None
+  pub ready : IsReady line.instr moment.frame.env
+  pub left : moment.turns < budget
   pub crosses : IsCrossing line.instr ⊎ LeadsOut line.instr moment.frame.env moment.heap
 
 -- where a run stands at such a line, it is the one at its frame's place among the lines of the body
-pub ReadsCrossing-lines : (program : ProgramView) (start moment : Moment) (body : BodyView) (lines : List Line) (default : Line) (budget : ℕ) → IsProgram program → moment.frame.code ≡ start.frame.code
-    → Some body ≡ body_at program (code_of start.frame.code) → lines ≡ body.lines → LabelsDiffer lines → EndsInTerminator lines
-    → StandsCrossing program budget moment → StandsAtLine program moment.frame None → ReadsCrossing program moment body (get_or lines moment.frame.place default)
-ReadsCrossing-lines program start moment body lines default budget checked code found lines_are differ terminated crossing stands =
+pub ReadsCrossing-lines : (program : ProgramView) (input : List Literal) (budget : ℕ) (start moment : Moment) (body : BodyView) (lines : List Line) (default : Line) → IsProgram program → moment.frame.code ≡ start.frame.code
+    → Some body ≡ body_at program (code_of start.frame.code) → lines ≡ body.lines → LabelsDiffer lines → EndsInTerminator lines → HasScopes body → MentionsItsVariables body
+    → StandsCrossing program budget moment → Stands program input moment → ReadsCrossing program budget moment (get_or lines moment.frame.place default)
+ReadsCrossing-lines program input budget start moment body lines default checked code found lines_are differ terminated scopes mentions crossing stands =
+    let line = get_or lines moment.frame.place default in
     let body_is : body_of program (code_of moment.frame.code) ≡ body =
     ap (λ code. body_of program (code_of code)) code ∙ body_of-runs program start body (sym found) in
-    let at : IsAt program moment (get_or lines moment.frame.place default) = IsAt-lines program moment body lines default checked body_is lines_are differ terminated crossing.going stands in
-    let same_found : Some crossing.line ≡ Some (get_or lines moment.frame.place default) = sym crossing.found ∙ at.found in
-    let same : crossing.line ≡ get_or lines moment.frame.place default = cc in
+    let here : StandsAtLine program moment.frame None = stands.at_line crossing.going in
+    let at : IsAt program moment line = IsAt-lines program moment body lines default checked body_is lines_are differ terminated crossing.going here in
+    let same_found : Some crossing.line ≡ Some line = sym crossing.found ∙ at.found in
+    let same : crossing.line ≡ line = cc in
     let Crosses : Line → Type 0 = λ line. IsCrossing line.instr ⊎ LeadsOut line.instr moment.frame.env moment.heap in
-    record { at = at; runs = body_is; crosses = subst Crosses same crossing.crosses }
+    record {
+      at = at;
+      stands = here;
+      ready = IsReady-line program moment line body at body_is scopes mentions here;
+      left = crossing.left;
+      crosses = subst Crosses same crossing.crosses;
+    }
 
 -- the turn that it takes
 pub turns-crossing : (program : ProgramView) (input : List Literal) (old new : Moment) (line : Line) → IsAt program old line → IsCrossing line.instr ⊎ LeadsOut line.instr old.frame.env old.heap
