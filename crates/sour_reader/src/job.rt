@@ -28,4 +28,3 @@ pub fn read_job(alloc: Global, bytes: &[u8]) -> Result<RawJob, TextFault>
         inputs,
     })
 }
-
