@@ -34,4 +34,3 @@ mod versions;
 
 pub use fault::ScopeFault;
 pub use job::check;
-

@@ -1,7 +1,7 @@
 //! A text, from its bytes to its program.
 
-use sour_scope::check;
 use sour_reader::read_job;
+use sour_scope::check;
 use sour_syntax::{Code, Expr, FunId, Instr, Literal, Op, Pass, PlanSimple, Simple, Start, VarId};
 use std::test::Fail;
 

@@ -68,4 +68,3 @@ impl<'a> TokenLines<'a> {
         Ok(false)
     }
 }
-
