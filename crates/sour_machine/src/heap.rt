@@ -43,7 +43,7 @@ impl Heap {
     }
 
     /// How many cells more the run may make.
-    pub(crate) fn room(&self) -> usize
+    pub fn room(&self) -> usize
         ensures room { result ≡ cell_limit - count_heap self.now }
         ensures within { count_heap self.now ≤ cell_limit }
     {
@@ -69,7 +69,7 @@ impl Heap {
     }
 
     /// Makes an array of these cells, for which there is room. Where memory is wanting nothing is made.
-    pub(crate) fn add(&mut self, cells: List<Value>) -> Result<ArrayId, AllocError>
+    pub fn add(&mut self, cells: List<Value>) -> Result<ArrayId, AllocError>
         requires { length cells ≤ cell_limit - count_heap self.old }
         ensures ok { OnOk result (self.new ≡ self.old ++ cells ∷ []) }
         ensures array { IfOk result (λ array. array ≡ next_array self.old) }
