@@ -1,23 +1,11 @@
 //! `sourir`: reads a text of functions and inputs from standard input, runs each input, and writes one
 //! block of output for each to standard output.
 //!
-//! The words on the command line say what is wanted; `run`, with or without `--budget N`, is the one
-//! command that there is. The exit status says how it went: `program::sourir` gives it, and its contract
-//! says what each means.
+//! The words on the command line say what is wanted, and the exit status says how it went: see
+//! `sour_commands`, where the commands are.
 #![tactic(auto)]
 
-mod blocks;
-mod budget;
-mod fault;
-mod program;
-mod run;
-mod serving;
-mod tally;
-#[cfg(test)]
-mod tests;
-
-use crate::fault::{Fault, write_fault};
-use crate::program::sourir;
+use sour_commands::{Fault, sourir, write_fault};
 use sour_ports::{ReaderSource, WriterSink};
 use std::io::ErrorKind;
 use std::process::ExitCode;

@@ -1,0 +1,34 @@
+use Rattle.std.proofs.Common.{◌≤◌, Err, length, refl, ap, arith}
+use Rattle.sour_reader.specs.Job.{Reads}
+use Rattle.sour_commands.specs.Answer.{text_limit, Accepts, ReadsAsNone, ReadsAsRefused}
+use Rattle.sour_commands.proofs.TextLemmas.{IfSome-GivesAll}
+use Rattle.sour_commands.proofs.run.accept.Goals as goal
+
+pub returns-in-Err-Unplaced-clause-fault : goal.returns-in-Err-Unplaced-clause-fault
+returns-in-Err-Unplaced-clause-fault g c = λ budget.
+    let short : length c.as_slice.result.now ≤ text_limit = omega (arith, c.as_slice.ensures.len, c.in-Ok.ensures.short) in
+    IfSome-GivesAll (λ bytes. (length bytes ≤ text_limit) × ReadsAsNone bytes) _ _ _ _ c.in-Ok.ensures.whole c.as_slice.ensures.value
+    (short, c.in-Err-Unplaced.ensures.unplaced (ap Err c.in-Err-Unplaced.field-0-is))
+
+pub returns-in-Ok-check-clause-job : goal.returns-in-Ok-check-clause-job
+returns-in-Ok-check-clause-job g c =
+    let job = c.in-Ok-check.job in
+    let short : length c.as_slice.result.now ≤ text_limit = omega (arith, c.as_slice.ensures.len, c.in-Ok.ensures.short) in
+    let reads : Reads c.as_slice.result.now c.in-Ok-read_job.raw = (c.in-Ok-read_job.ensures.found c.in-Ok-read_job.raw).1 refl in
+    let accepts : Accepts c.as_slice.result.now job.program.value job.inputs = record {
+      raw = c.in-Ok-read_job.raw;
+      reads = reads;
+      plan = job.plan;
+      checked = (c.in-Ok-check.ensures.found job.program.value job.plan job.inputs).1 (refl, refl, refl);
+    } in
+    IfSome-GivesAll (λ bytes. (length bytes ≤ text_limit) × Accepts bytes job.program.value job.inputs) _ _ _ _ c.in-Ok.ensures.whole c.as_slice.ensures.value
+    (short, accepts)
+
+pub returns-in-Err-Unplaced-check-clause-fault : goal.returns-in-Err-Unplaced-check-clause-fault
+returns-in-Err-Unplaced-check-clause-fault g c = λ budget.
+    let short : length c.as_slice.result.now ≤ text_limit = omega (arith, c.as_slice.ensures.len, c.in-Ok.ensures.short) in
+    let reads : Reads c.as_slice.result.now c.in-Ok-read_job.raw = (c.in-Ok-read_job.ensures.found c.in-Ok-read_job.raw).1 refl in
+    let refused : ReadsAsRefused c.as_slice.result.now =
+    (c.in-Ok-read_job.raw, reads, c.in-Err-Unplaced-check.ensures.unplaced (ap Err c.in-Err-Unplaced-check.field-0-is)) in
+    IfSome-GivesAll (λ bytes. (length bytes ≤ text_limit) × ReadsAsRefused bytes) _ _ _ _ c.in-Ok.ensures.whole c.as_slice.ensures.value
+    (short, refused)

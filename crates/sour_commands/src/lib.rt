@@ -1,0 +1,17 @@
+//! The commands of the program `sourir`, over any source and any sink: what the words on a command line
+//! ask for is done, its output goes to the sink, and the exit status says how it went. The contract of
+//! [`sourir`] says what each answer means, and when it comes.
+#![tactic(auto)]
+
+mod blocks;
+mod budget;
+mod fault;
+mod program;
+mod run;
+mod serving;
+mod tally;
+
+pub use blocks::write_block;
+pub use fault::{Fault, write_fault};
+pub use program::sourir;
+pub use run::command_run;
