@@ -1,6 +1,5 @@
-use sour_reader::{
-    RawExit, RawExpr, RawInstr, RawLiteral, RawPass, RawPlanSimple, RawSimple, TextFault, read_job,
-};
+use sour_raw::{RawExit, RawExpr, RawInstr, RawLiteral, RawPass, RawPlanSimple, RawSimple};
+use sour_reader::{TextFault, read_job};
 use sour_syntax::{Op, Start};
 use std::alloc::Global;
 use std::test::Fail;

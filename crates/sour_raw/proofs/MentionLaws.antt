@@ -8,12 +8,12 @@ use Rattle.std.specs.Str.{bytes_eq}
 use Rattle.std.proofs.lemmas.Slice.Eq.{bytes_eq-Decides}
 use Rattle.sour_syntax.specs.declared.literal.VarId.{VarId}
 use Rattle.sour_syntax.specs.Names.{Numbers}
-use Rattle.sour_reader.specs.declared.raw.RawSimple.{RawSimple}
-use Rattle.sour_reader.specs.declared.raw.RawSimple.TheVariants as simple
-use Rattle.sour_reader.specs.declared.raw.RawExpr.{RawExpr}
-use Rattle.sour_reader.specs.declared.raw.RawExpr.TheVariants.{Plain, Cell, Length, Not, Binary}
-use Rattle.sour_reader.specs.declared.raw.RawLine.{RawLine}
-use Rattle.sour_reader.specs.Mentions.{simple_names, expr_names, each_names, instr_names, with_name, with_names, with_lines}
+use Rattle.sour_raw.specs.declared.raw.RawSimple.{RawSimple}
+use Rattle.sour_raw.specs.declared.raw.RawSimple.TheVariants as simple
+use Rattle.sour_raw.specs.declared.raw.RawExpr.{RawExpr}
+use Rattle.sour_raw.specs.declared.raw.RawExpr.TheVariants.{Plain, Cell, Length, Not, Binary}
+use Rattle.sour_raw.specs.declared.raw.RawLine.{RawLine}
+use Rattle.sour_raw.specs.Mentions.{simple_names, expr_names, each_names, instr_names, with_name, with_names, with_lines}
 
 -- a name that has a place is among them
 any_at : (names : List (List ℕ)) (place : ℕ) (name : List ℕ) → slice_get names place ≡ Some name → list_any (bytes_eq name) names ≡ true
@@ -23,8 +23,8 @@ any_at (first ∷ names) zero name at =
     or_left (bytes_eq name first) (list_any (bytes_eq name) names) ((bytes_eq-Decides name first).1 same)
 any_at (first ∷ names) (suc place) name at = or_right (bytes_eq name first) (list_any (bytes_eq name) names) (any_at names place name at)
 
--- a name that differs from each isn't
-none_at : (names : List (List ℕ)) (name : List ℕ) → AllByRecursion (λ other. other ≢ name) names → list_any (bytes_eq name) names ≡ false
+-- a name that differs from each isn't among them
+pub none_at : (names : List (List ℕ)) (name : List ℕ) → AllByRecursion (λ other. other ≢ name) names → list_any (bytes_eq name) names ≡ false
 none_at [] name differ = refl
 none_at (first ∷ names) name differ =
     or_from (bytes_eq name first) (list_any (bytes_eq name) names) (false_from_ne_true (bytes_eq name first) (λ is. differ.0 (sym ((bytes_eq-Decides name first).0 is)))) (none_at names name differ.1)

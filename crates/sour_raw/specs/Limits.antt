@@ -1,15 +1,15 @@
 -- How much a text may hold.
 use Rattle.std.specs.Prelude.{◌≤◌, ℕ, List, length, ⊤}
 use Rattle.std.specs.List.{AllByRecursion}
-use Rattle.sour_reader.specs.declared.raw.RawInstr.{RawInstr}
-use Rattle.sour_reader.specs.declared.raw.RawInstr.TheVariants.{Var, Drop, Assign, ArrayLength, ArrayList, Store, Print, Read, Branch, Goto, Call, Return, Stop, Assume}
-use Rattle.sour_reader.specs.declared.raw.RawLine.{RawLine}
-use Rattle.sour_reader.specs.declared.raw.RawVersion.{RawVersion}
-use Rattle.sour_reader.specs.declared.raw.RawFunction.{RawFunction}
-use Rattle.sour_reader.specs.declared.raw.RawPlanJob.{RawPlanJob}
-use Rattle.sour_reader.specs.declared.raw.RawInput.{RawInput}
-use Rattle.sour_reader.specs.declared.raw.RawJob.{RawJob}
-use Rattle.sour_reader.specs.Mentions.{variables_of}
+use Rattle.sour_raw.specs.declared.raw.RawInstr.{RawInstr}
+use Rattle.sour_raw.specs.declared.raw.RawInstr.TheVariants.{Var, Drop, Assign, ArrayLength, ArrayList, Store, Print, Read, Branch, Goto, Call, Return, Stop, Assume}
+use Rattle.sour_raw.specs.declared.raw.RawLine.{RawLine}
+use Rattle.sour_raw.specs.declared.raw.RawVersion.{RawVersion}
+use Rattle.sour_raw.specs.declared.raw.RawFunction.{RawFunction}
+use Rattle.sour_raw.specs.declared.raw.RawPlanJob.{RawPlanJob}
+use Rattle.sour_raw.specs.declared.raw.RawInput.{RawInput}
+use Rattle.sour_raw.specs.declared.raw.RawJob.{RawJob}
+use Rattle.sour_raw.specs.Mentions.{variables_of}
 
 -- at most 1024 elements of a list, 255 arguments of a call, and 16 predicates and 16 extras
 abbrev pub IsShortInstr : RawInstr → Type 0

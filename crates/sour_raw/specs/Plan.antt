@@ -4,15 +4,15 @@ use Rattle.std.specs.List.{concat}
 use Rattle.sour_tokens.specs.Token.{IsDigits}
 use Rattle.sour_syntax.specs.declared.plan.Start.{Start}
 use Rattle.sour_syntax.specs.declared.plan.Start.TheVariants.{Text, Active}
-use Rattle.sour_reader.specs.declared.raw.RawPlanSimple.{RawPlanSimple}
-use Rattle.sour_reader.specs.declared.raw.RawPlanSimple.TheVariants.{Lit, Name}
-use Rattle.sour_reader.specs.declared.raw.RawPredicate.{RawPredicate}
-use Rattle.sour_reader.specs.declared.raw.RawPass.{RawPass}
-use Rattle.sour_reader.specs.declared.raw.RawPass.TheVariants.{Inject, Constprop, Unreachable, Inline, Move, Hoist, Compose, Prune}
-use Rattle.sour_reader.specs.declared.raw.RawPlanJob.{RawPlanJob}
-use Rattle.sour_reader.specs.Literal.{SpellsLiteral}
+use Rattle.sour_raw.specs.declared.raw.RawPlanSimple.{RawPlanSimple}
+use Rattle.sour_raw.specs.declared.raw.RawPlanSimple.TheVariants.{Lit, Name}
+use Rattle.sour_raw.specs.declared.raw.RawPredicate.{RawPredicate}
+use Rattle.sour_raw.specs.declared.raw.RawPass.{RawPass}
+use Rattle.sour_raw.specs.declared.raw.RawPass.TheVariants.{Inject, Constprop, Unreachable, Inline, Move, Hoist, Compose, Prune}
+use Rattle.sour_raw.specs.declared.raw.RawPlanJob.{RawPlanJob}
+use Rattle.sour_raw.specs.Literal.{SpellsLiteral}
 use Rattle.sour_syntax.specs.Name.{IsName}
-use Rattle.sour_reader.specs.Label.{IsLabel}
+use Rattle.sour_raw.specs.Label.{IsLabel}
 
 -- a part of a path behind its first label: a label or digits
 abbrev pub IsPart : List ℕ → Type 0

@@ -1,8 +1,8 @@
 -- How the variables of a version grow by what exits mention.
 use Rattle.std.proofs.Common.{◌≡◌, ℕ, ◌+◌, ◌<◌, ◌≤◌, List, [], ◌∷◌, ◌++◌, append_assoc, append-nil, take, get_or, length, refl, sym, ap, ◌∙◌, subst, inl, inr, arith}
 use Rattle.std.proofs.lemmas.List.{take_more}
-use Rattle.sour_reader.specs.Mentions.{all_names, with_names, AreOrBothMany}
-use Rattle.sour_reader.proofs.MentionLaws.{with_names_append, with_names_length}
+use Rattle.sour_raw.specs.Mentions.{all_names, with_names, AreOrBothMany}
+use Rattle.sour_raw.proofs.MentionLaws.{with_names_append, with_names_length}
 
 -- where there are too many already, there are too many with more
 pub many_with : (names more : List (List ℕ)) → 1024 < length names → 1024 < length (with_names names more)

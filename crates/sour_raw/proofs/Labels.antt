@@ -6,7 +6,7 @@ use Rattle.std.specs.List.{list_all}
 use Rattle.std.proofs.lemmas.List.Sums.{AllPass-from_list_all, list_all-from_AllPass}
 use Rattle.sour_tokens.specs.declared.tokens.Token.{Token}
 use Rattle.sour_tokens.specs.Token.{spelling, IsDigits}
-use Rattle.sour_reader.specs.Label.{IsDecimal}
+use Rattle.sour_raw.specs.Label.{IsDecimal}
 
 -- one digit and more of them
 pub digits_from_first : (digit : ℕ) (digits : List ℕ) (test : Bool) → is_ascii_digit digit ≡ true → test ≡ list_all is_ascii_digit digits → IsTrue test ↔ IsDigits (digit ∷ digits)

@@ -1,8 +1,8 @@
 -- How inputs are spelled.
 use Rattle.std.specs.Prelude.{◌≡◌, ℕ, List, [], ◌∷◌, ◌++◌, codes, ⊤}
-use Rattle.sour_reader.specs.declared.raw.RawLiteral.{RawLiteral}
-use Rattle.sour_reader.specs.declared.raw.RawInput.{RawInput}
-use Rattle.sour_reader.specs.Literal.{SpellsLiteral}
+use Rattle.sour_raw.specs.declared.raw.RawLiteral.{RawLiteral}
+use Rattle.sour_raw.specs.declared.raw.RawInput.{RawInput}
+use Rattle.sour_raw.specs.Literal.{SpellsLiteral}
 
 -- the tokens spell the values, one behind the other
 abbrev pub SpellsValues : List RawLiteral → List (List ℕ) → Type 0

@@ -1,12 +1,12 @@
 -- How exits are spelled.
 use Rattle.std.specs.Prelude.{◌≡◌, ℕ, List, [], ◌∷◌, ◌++◌, codes}
-use Rattle.sour_reader.specs.declared.raw.RawPlace.{RawPlace}
-use Rattle.sour_reader.specs.declared.raw.RawBind.{RawBind}
-use Rattle.sour_reader.specs.declared.raw.RawExtra.{RawExtra}
-use Rattle.sour_reader.specs.declared.raw.RawExit.{RawExit}
+use Rattle.sour_raw.specs.declared.raw.RawPlace.{RawPlace}
+use Rattle.sour_raw.specs.declared.raw.RawBind.{RawBind}
+use Rattle.sour_raw.specs.declared.raw.RawExtra.{RawExtra}
+use Rattle.sour_raw.specs.declared.raw.RawExit.{RawExit}
 use Rattle.sour_syntax.specs.Name.{IsName}
-use Rattle.sour_reader.specs.Label.{IsLabel}
-use Rattle.sour_reader.specs.Expression.{SpellsExpr, SpellsListed}
+use Rattle.sour_raw.specs.Label.{IsLabel}
+use Rattle.sour_raw.specs.Expression.{SpellsExpr, SpellsListed}
 
 -- the tokens spell the place: a function, a version of it and a label there
 abbrev pub SpellsPlace : RawPlace → List (List ℕ) → Type 0

@@ -1,12 +1,12 @@
 -- How expressions and lists of them are spelled.
 use Rattle.std.specs.Prelude.{◌≡◌, ℕ, List, [], ◌∷◌, ◌++◌, codes}
-use Rattle.sour_reader.specs.declared.raw.RawSimple.{RawSimple}
-use Rattle.sour_reader.specs.declared.raw.RawSimple.TheVariants as simple
-use Rattle.sour_reader.specs.declared.raw.RawExpr.{RawExpr}
-use Rattle.sour_reader.specs.declared.raw.RawExpr.TheVariants as expr
-use Rattle.sour_reader.specs.Literal.{SpellsLiteral}
+use Rattle.sour_raw.specs.declared.raw.RawSimple.{RawSimple}
+use Rattle.sour_raw.specs.declared.raw.RawSimple.TheVariants as simple
+use Rattle.sour_raw.specs.declared.raw.RawExpr.{RawExpr}
+use Rattle.sour_raw.specs.declared.raw.RawExpr.TheVariants as expr
+use Rattle.sour_raw.specs.Literal.{SpellsLiteral}
 use Rattle.sour_syntax.specs.Name.{IsName}
-use Rattle.sour_reader.specs.Operator.{op_spelling}
+use Rattle.sour_raw.specs.Operator.{op_spelling}
 
 -- the tokens spell the operand
 abbrev pub SpellsSimple : RawSimple → List (List ℕ) → Type 0

@@ -4,8 +4,8 @@ use Rattle.std.specs.Int.{w64}
 use Rattle.std.specs.Str.Parse.{digits_value}
 use Rattle.sour_tokens.specs.Token.{IsDigits}
 use Rattle.sour_syntax.specs.Name.{IsName}
-use Rattle.sour_reader.specs.declared.raw.RawLiteral.{RawLiteral}
-use Rattle.sour_reader.specs.declared.raw.RawLiteral.TheVariants.{Number, Truth, Nil, Function}
+use Rattle.sour_raw.specs.declared.raw.RawLiteral.{RawLiteral}
+use Rattle.sour_raw.specs.declared.raw.RawLiteral.TheVariants.{Number, Truth, Nil, Function}
 
 -- digits, or `-` and digits, whose number fits 64 bits
 abbrev pub SpellsNumber : ℤ → List (List ℕ) → Type 0

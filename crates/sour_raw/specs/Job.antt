@@ -2,15 +2,15 @@
 use Rattle.std.specs.Prelude.{◌≡◌, ℕ, List, [], ◌∷◌, ◌++◌, codes, ⊤}
 use Rattle.std.specs.List.{AllByRecursion}
 use Rattle.sour_tokens.specs.Text.{HasTokenLines}
-use Rattle.sour_reader.specs.declared.raw.RawLine.{RawLine}
-use Rattle.sour_reader.specs.declared.raw.RawVersion.{RawVersion}
-use Rattle.sour_reader.specs.declared.raw.RawFunction.{RawFunction}
-use Rattle.sour_reader.specs.declared.raw.RawJob.{RawJob}
+use Rattle.sour_raw.specs.declared.raw.RawLine.{RawLine}
+use Rattle.sour_raw.specs.declared.raw.RawVersion.{RawVersion}
+use Rattle.sour_raw.specs.declared.raw.RawFunction.{RawFunction}
+use Rattle.sour_raw.specs.declared.raw.RawJob.{RawJob}
 use Rattle.sour_syntax.specs.Name.{IsName}
-use Rattle.sour_reader.specs.Instruction.{SpellsLine}
-use Rattle.sour_reader.specs.Plan.{SpellsPlan}
-use Rattle.sour_reader.specs.Inputs.{SpellsInputs}
-use Rattle.sour_reader.specs.Limits.{IsShort}
+use Rattle.sour_raw.specs.Instruction.{SpellsLine}
+use Rattle.sour_raw.specs.Plan.{SpellsPlan}
+use Rattle.sour_raw.specs.Inputs.{SpellsInputs}
+use Rattle.sour_raw.specs.Limits.{IsShort}
 
 -- one line of tokens for each line
 abbrev pub SpellsLines : List RawLine → List (List (List ℕ)) → Type 0

@@ -1,12 +1,12 @@
 -- How instructions and their labels are spelled, one line for each.
 use Rattle.std.specs.Prelude.{◌≡◌, ℕ, List, [], ◌∷◌, ◌++◌, Option, None, Some, codes}
-use Rattle.sour_reader.specs.declared.raw.RawInstr.{RawInstr}
-use Rattle.sour_reader.specs.declared.raw.RawInstr.TheVariants.{Var, Drop, Assign, ArrayLength, ArrayList, Store, Print, Read, Branch, Goto, Call, Return, Stop, Assume}
-use Rattle.sour_reader.specs.declared.raw.RawLine.{RawLine}
+use Rattle.sour_raw.specs.declared.raw.RawInstr.{RawInstr}
+use Rattle.sour_raw.specs.declared.raw.RawInstr.TheVariants.{Var, Drop, Assign, ArrayLength, ArrayList, Store, Print, Read, Branch, Goto, Call, Return, Stop, Assume}
+use Rattle.sour_raw.specs.declared.raw.RawLine.{RawLine}
 use Rattle.sour_syntax.specs.Name.{IsName}
-use Rattle.sour_reader.specs.Label.{IsLabel}
-use Rattle.sour_reader.specs.Expression.{SpellsSimple, SpellsExpr, SpellsEach}
-use Rattle.sour_reader.specs.Exit.{SpellsExit}
+use Rattle.sour_raw.specs.Label.{IsLabel}
+use Rattle.sour_raw.specs.Expression.{SpellsSimple, SpellsExpr, SpellsEach}
+use Rattle.sour_raw.specs.Exit.{SpellsExit}
 
 -- the tokens spell the instruction
 abbrev pub SpellsInstr : RawInstr → List (List ℕ) → Type 0
