@@ -18,4 +18,5 @@ abbrev pub DiffersIn : Answer → ℕ → List ℕ → Difference → Type 0
 DiffersIn wanted status written (Status given due) =
     (given ≡ status) × (due ≡ wanted.status) × (status ≢ wanted.status)
 DiffersIn wanted status written (Bytes from) =
-    (status ≡ wanted.status) × ((place : ℕ) × (from ≡ place + 1) × DifferFrom written wanted.written.items place)
+    (status ≡ wanted.status)
+    × ((place : ℕ) × (from ≡ place + 1) × DifferFrom written wanted.written.items place)

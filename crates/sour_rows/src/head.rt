@@ -157,7 +157,8 @@ impl Head {
 
 /// Puts blanks after a text, so that it has so many bytes.
 fn fill(text: &mut Vec<u8>, length: usize) -> Result<(), NoRow>
-    ensures { OnOk result (text.new.items ≡ text.old.items ++ replicate (length - vec_len text.old) 32) }
+    ensures { OnOk result (text.new.items
+        ≡ text.old.items ++ replicate (length - vec_len text.old) 32) }
 {
     if text.len() > length {
         return Err(NoRow::NoRoomForBlanks);

@@ -1,21 +1,24 @@
-//! `sour_rows`: runs the rows of the folder that it is run in, and says which differ from what they want.
+//! `sour_rows`: runs the rows of the folder that it is run in, and says which differ from what they
+//! want.
 //!
-//! Each folder there is a group, and each row is a run of the program `sourir` with what it must write and
-//! the status that it must give. What a row is made of is told in `docs/formats.md`, under *Rows*.
+//! Each folder there is a group, and each row is a run of the program `sourir` with what it must write
+//! and the status that it must give. What a row is made of is told in `docs/formats.md`, under *Rows*.
 #![tactic(auto)]
 
 mod answer;
 mod fault;
-mod files;
 mod format;
+mod group;
 mod head;
 mod number;
 mod part;
+mod reading;
 mod row;
 mod running;
 
 use crate::fault::NoRow;
-use crate::files::{Found, groups, read, rows};
+use crate::group::{Found, Group, groups};
+use crate::reading::read;
 use crate::running::{Differs, run_row};
 use std::{fmt, io};
 
@@ -51,24 +54,24 @@ fn outcome_of(rt: &HostRuntime, group: &str, found: &Found) -> Outcome {
 }
 
 /// Prints a line for each row of a group that isn't as wanted, and then one with the counts.
-fn tell_group(rt: &HostRuntime, group: &str) -> io::Result<()> {
-    let found = rows(rt, group)?;
+fn tell(rt: &HostRuntime, group: &Group) -> io::Result<()> {
+    let folder = group.name.as_str();
     let mut differ = 0usize;
-    for row in &found {
-        let outcome = outcome_of(rt, group, row);
+    for row in &group.rows {
+        let outcome = outcome_of(rt, folder, row);
         if outcome != Outcome::Same {
             let name = row.name.as_str();
-            println!(rt; "{group}/{name}: {outcome}")?;
+            println!(rt; "{folder}/{name}: {outcome}")?;
             differ = differ.saturating_add(1);
         }
     }
-    let count = found.len();
-    println!(rt; "{group}: {count} rows, {differ} differ")
+    let count = group.rows.len();
+    println!(rt; "{folder}: {count} rows, {differ} differ")
 }
 
 fn main(rt: HostRuntime) -> io::Result<()> {
-    for group in groups(&rt)? {
-        tell_group(&rt, group.as_str())?;
+    for group in &groups(&rt)? {
+        tell(&rt, group)?;
     }
     Ok(())
 }

@@ -68,8 +68,8 @@ pub enum Failing {
     Listed { source: Vec<u64>, sink: Vec<u64> },
     /// The row is run once for each of these calls of the source, with that one failing.
     SourceInTurn(Turns),
-    /// The row is run once for each of these calls of the sink, with that one failing. Each call takes
-    /// one byte, so the bytes that are wanted are those that the calls before took.
+    /// The row is run once for each of these calls of the sink, with that one failing. Each call
+    /// takes one byte, so the bytes that are wanted are those that the calls before took.
     SinkInTurn(Turns),
 }
 

@@ -77,7 +77,8 @@ fn run_sink_in_turn(alloc: Global, row: &Row, turns: Turns) -> Result<Option<Dif
     Ok(None)
 }
 
-/// The status of an answer, and those of its bytes that are written before this call, at a byte a call.
+/// The status of an answer, and those of its bytes that are written before this call, at a byte a
+/// call.
 fn before_call(alloc: Global, wanted: &Answer, call: u64) -> Result<Answer, AllocError>
     ensures status { IfOk result (λ answer. answer.status ≡ wanted.now.status) }
     ensures written { IfOk result (λ answer.
@@ -90,8 +91,8 @@ fn before_call(alloc: Global, wanted: &Answer, call: u64) -> Result<Answer, Allo
     })
 }
 
-/// Runs the words of a row on its text, with these calls of its ports failing, and says how what it gives
-/// differs from what is wanted, if it does.
+/// Runs the words of a row on its text, with these calls of its ports failing, and says how what it
+/// gives differs from what is wanted, if it does.
 fn run(
     alloc: Global,
     row: &Row,
