@@ -8,8 +8,8 @@ use Rattle.sour_syntax.specs.declared.literal.Literal.{Literal}
 use Rattle.sour_syntax.specs.declared.plan.PlanJob.{PlanJob}
 use Rattle.sour_syntax.specs.Program.{ProgramView}
 use Rattle.sour_semantics.specs.Block.{BlockEnd, RunShowsAll}
-use Rattle.sour_reader.specs.declared.raw.RawJob.{RawJob}
-use Rattle.sour_reader.specs.Job.{Reads}
+use Rattle.sour_raw.specs.declared.raw.RawJob.{RawJob}
+use Rattle.sour_raw.specs.Job.{Reads}
 use Rattle.sour_scope.specs.Checked.{IsChecked}
 use Rattle.sour_tokens.specs.Token.{IsDigits}
 use Rattle.sour_commands.specs.Ports.{SourceMoves, SinkMoves}

@@ -17,7 +17,7 @@ use std::alloc::Global;
 /// | 2 | the words ask for nothing that there is: `fault words` |
 /// | 3 | the text is too long or no job: `fault text ..`, or its names or scopes are wrong: `fault scope ..` |
 /// | 4 | the source failed: `fault read` |
-/// | 5 | the sink failed, after some of what was due |
+/// | 5 | the sink failed; what it took is a front of what was due |
 /// | 6 | memory was wanting: `fault memory`, or all blocks, one or more of which end in `memory` |
 /// | 7 | a block ends in `cut`, and none in `memory` |
 pub fn sourir<S: Source, K: Sink>(

@@ -118,7 +118,7 @@ impl Run {
         // Want of memory is for good.
         ensures wanting { IsTrue self.old.wanting → self.new ≡ self.old }
 
-        // No other instructions want memory than those that write, make an array or call, and an assume whose
+        // No other instructions want memory than those that print, make an array or call, and an assume whose
         // predicates lead to its exit; and none wants any whose turn is not left.
         ensures memory { result ≡ Advance.Memory → IsTrue self.old.wanting ⊎ WantsMemory (self.old.state.turns + turns) self.new }
     {

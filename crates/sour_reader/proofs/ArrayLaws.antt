@@ -2,13 +2,13 @@
 use Rattle.std.proofs.Common.{◌≡◌, ℕ, List, [], ◌∷◌, ◌++◌, None, refl, sym, ap, ◌∙◌, subst}
 use Rattle.std.specs.Prelude.{codes}
 use Rattle.std.proofs.lemmas.List.{append_cancel_right}
-use Rattle.sour_reader.specs.declared.raw.RawSimple.{RawSimple}
-use Rattle.sour_reader.specs.declared.raw.RawExpr.{RawExpr}
-use Rattle.sour_reader.specs.declared.raw.RawInstr.{RawInstr}
-use Rattle.sour_reader.specs.declared.raw.RawInstr.TheVariants.{Var, Drop, Assign, ArrayLength, ArrayList, Store, Print, Read, Branch, Goto, Call, Return, Stop, Assume}
+use Rattle.sour_raw.specs.declared.raw.RawSimple.{RawSimple}
+use Rattle.sour_raw.specs.declared.raw.RawExpr.{RawExpr}
+use Rattle.sour_raw.specs.declared.raw.RawInstr.{RawInstr}
+use Rattle.sour_raw.specs.declared.raw.RawInstr.TheVariants.{Var, Drop, Assign, ArrayLength, ArrayList, Store, Print, Read, Branch, Goto, Call, Return, Stop, Assume}
 use Rattle.sour_syntax.specs.Name.{IsName}
-use Rattle.sour_reader.specs.Expression.{SpellsSimple, SpellsExpr, SpellsEach}
-use Rattle.sour_reader.specs.Instruction.{SpellsInstr}
+use Rattle.sour_raw.specs.Expression.{SpellsSimple, SpellsExpr, SpellsEach}
+use Rattle.sour_raw.specs.Instruction.{SpellsInstr}
 use Rattle.sour_reader.specs.Parts.{BeginsNone}
 use Rattle.sour_reader.proofs.Found.{Finds, finds_none, MadeOfTwo, MadeOfThree}
 use Rattle.sour_reader.proofs.Expressions.{IsNameOf, OnlySplit, NoSplit}

@@ -1,13 +1,13 @@
 -- How assumptions are read.
 use Rattle.std.proofs.Common.{◌≡◌, ℕ, List, ◌∷◌, ◌++◌, None, refl, sym, ap, ◌∙◌, subst}
 use Rattle.std.specs.Prelude.{codes}
-use Rattle.sour_reader.specs.declared.raw.RawExpr.{RawExpr}
-use Rattle.sour_reader.specs.declared.raw.RawExit.{RawExit}
-use Rattle.sour_reader.specs.declared.raw.RawInstr.{RawInstr}
-use Rattle.sour_reader.specs.declared.raw.RawInstr.TheVariants.{Var, Drop, Assign, ArrayLength, ArrayList, Store, Print, Read, Branch, Goto, Call, Return, Stop, Assume}
-use Rattle.sour_reader.specs.Expression.{SpellsExpr, SpellsEach}
-use Rattle.sour_reader.specs.Exit.{SpellsExit}
-use Rattle.sour_reader.specs.Instruction.{SpellsInstr}
+use Rattle.sour_raw.specs.declared.raw.RawExpr.{RawExpr}
+use Rattle.sour_raw.specs.declared.raw.RawExit.{RawExit}
+use Rattle.sour_raw.specs.declared.raw.RawInstr.{RawInstr}
+use Rattle.sour_raw.specs.declared.raw.RawInstr.TheVariants.{Var, Drop, Assign, ArrayLength, ArrayList, Store, Print, Read, Branch, Goto, Call, Return, Stop, Assume}
+use Rattle.sour_raw.specs.Expression.{SpellsExpr, SpellsEach}
+use Rattle.sour_raw.specs.Exit.{SpellsExit}
+use Rattle.sour_raw.specs.Instruction.{SpellsInstr}
 use Rattle.sour_reader.specs.Separators.{HasNone}
 use Rattle.sour_reader.proofs.Found.{Finds, finds_none, MadeOfTwo}
 use Rattle.sour_reader.proofs.Operands.{apart}

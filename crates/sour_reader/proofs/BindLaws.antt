@@ -2,10 +2,10 @@
 use Rattle.std.proofs.Common.{◌≡◌, ℕ, List, [], Option, refl, sym, subst}
 use Rattle.std.specs.Prelude.{codes}
 use Rattle.std.specs.Option.{option_map}
-use Rattle.sour_reader.specs.declared.raw.RawExpr.{RawExpr}
-use Rattle.sour_reader.specs.declared.raw.RawBind.{RawBind}
-use Rattle.sour_reader.specs.Expression.{SpellsExpr}
-use Rattle.sour_reader.specs.Exit.{SpellsBind}
+use Rattle.sour_raw.specs.declared.raw.RawExpr.{RawExpr}
+use Rattle.sour_raw.specs.declared.raw.RawBind.{RawBind}
+use Rattle.sour_raw.specs.Expression.{SpellsExpr}
+use Rattle.sour_raw.specs.Exit.{SpellsBind}
 use Rattle.sour_reader.specs.Parts.{SpellsSetting}
 use Rattle.sour_reader.specs.Separators.{HasNone}
 use Rattle.sour_reader.proofs.Found.{Finds, finds_made}

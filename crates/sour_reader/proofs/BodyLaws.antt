@@ -3,20 +3,20 @@ use Rattle.std.proofs.Common.{◌≡◌, ◌↔◌, ◌⊎◌, ℕ, ◌<◌, ◌
 use Rattle.std.specs.Prelude.{codes, IsTrue}
 use Rattle.std.specs.Str.{bytes_eq}
 use Rattle.std.proofs.lemmas.Bool.{false≢true}
-use Rattle.sour_reader.specs.declared.raw.RawInstr.{RawInstr}
-use Rattle.sour_reader.specs.declared.raw.RawInstr.TheVariants.{Var, Drop, Assign, ArrayLength, ArrayList, Store, Print, Read, Branch, Goto, Call, Return, Stop, Assume}
-use Rattle.sour_reader.specs.declared.raw.RawLine.{RawLine}
-use Rattle.sour_reader.specs.declared.raw.RawVersion.{RawVersion}
+use Rattle.sour_raw.specs.declared.raw.RawInstr.{RawInstr}
+use Rattle.sour_raw.specs.declared.raw.RawInstr.TheVariants.{Var, Drop, Assign, ArrayLength, ArrayList, Store, Print, Read, Branch, Goto, Call, Return, Stop, Assume}
+use Rattle.sour_raw.specs.declared.raw.RawLine.{RawLine}
+use Rattle.sour_raw.specs.declared.raw.RawVersion.{RawVersion}
 use Rattle.sour_syntax.specs.Name.{is_reserved}
-use Rattle.sour_reader.specs.Mentions.{instr_names, with_names, with_lines}
-use Rattle.sour_reader.specs.Instruction.{SpellsInstr, SpellsLabelled}
-use Rattle.sour_reader.specs.Job.{version_heading, function_end}
+use Rattle.sour_raw.specs.Mentions.{instr_names, with_names, with_lines}
+use Rattle.sour_raw.specs.Instruction.{SpellsInstr, SpellsLabelled}
+use Rattle.sour_raw.specs.Job.{version_heading, function_end}
 use Rattle.sour_reader.specs.Ahead.{AheadView, AreLeft, ReadsAs, ReadsAsNone, OneLine, EachUpTo}
 use Rattle.sour_reader.specs.Front.{IsLine, BeginsVersionOrEnd, NextIs, EndVersion, AreShort, HasBody, IsVersionHeading, HasVersion, EndFunction, AreSome}
 use Rattle.sour_reader.proofs.Readings.{Lines, next_is, left_some, Passes, GoesOn, ReadSoFar, line_reads, reads_with, reads_none_with, reads_both, so_far_none, so_far_more, so_far_end, so_far_nowhere, so_far_longer, so_far_front}
 use Rattle.sour_reader.proofs.Lists.{first_same}
 use Rattle.sour_reader.proofs.Operands.{apart, no_reserved}
-use Rattle.sour_reader.proofs.MentionLaws.{with_names_length, with_lines_append, with_lines_length}
+use Rattle.sour_raw.proofs.MentionLaws.{with_names_length, with_lines_append, with_lines_length}
 
 -- the one thing that the tokens of the next line spell
 pub only_one : {X : Type 0} (T : X → List (List ℕ) → Type 0) (tokens next : List (List ℕ)) (found : Option X) (x : X) → tokens ≡ next → found ≡ Some x → ((other : X) → T other tokens ↔ (found ≡ Some other)) → (other : X) → T other next ↔ (other ≡ x)

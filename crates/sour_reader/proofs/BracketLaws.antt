@@ -5,12 +5,12 @@ use Rattle.std.specs.Str.{bytes_eq}
 use Rattle.std.proofs.lemmas.List.{take_more, map-append}
 use Rattle.sour_syntax.proofs.Everywhere.{AllByRecursion-append}
 use Rattle.sour_syntax.proofs.LabelPlaces.{tested}
-use Rattle.sour_reader.specs.declared.raw.RawExpr.{RawExpr}
-use Rattle.sour_reader.specs.declared.raw.RawExpr.TheVariants.{Plain, Cell, Length, Not, Binary}
-use Rattle.sour_reader.specs.declared.raw.RawBind.{RawBind}
-use Rattle.sour_reader.specs.Operator.{op_spelling}
-use Rattle.sour_reader.specs.Expression.{SpellsExpr}
-use Rattle.sour_reader.specs.Exit.{SpellsBind, SpellsBinds}
+use Rattle.sour_raw.specs.declared.raw.RawExpr.{RawExpr}
+use Rattle.sour_raw.specs.declared.raw.RawExpr.TheVariants.{Plain, Cell, Length, Not, Binary}
+use Rattle.sour_raw.specs.declared.raw.RawBind.{RawBind}
+use Rattle.sour_raw.specs.Operator.{op_spelling}
+use Rattle.sour_raw.specs.Expression.{SpellsExpr}
+use Rattle.sour_raw.specs.Exit.{SpellsBind, SpellsBinds}
 use Rattle.sour_reader.specs.Parts.{inside_behind, LeadsTo, IsPaired}
 use Rattle.sour_reader.proofs.Operands.{apart}
 use Rattle.sour_reader.proofs.Tokens.{IsPlain, ArePlain, plain_from_test, plain_name, plain_simple, plain_operator}

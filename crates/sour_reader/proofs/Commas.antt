@@ -3,7 +3,7 @@ use Rattle.std.proofs.Common.{◌≡◌, ◌↔◌, ℕ, length, map, arith, tru
 use Rattle.std.specs.Prelude.{codes, ◌==◌}
 use Rattle.std.proofs.lemmas.Bool.Decides.{nat_tests}
 use Rattle.sour_syntax.proofs.Everywhere.{AllByRecursion-append}
-use Rattle.sour_reader.specs.Expression.{SpellsListed}
+use Rattle.sour_raw.specs.Expression.{SpellsListed}
 use Rattle.sour_reader.specs.Parts.{SpellsSome}
 use Rattle.sour_reader.specs.Separators.{HasNone}
 use Rattle.sour_reader.proofs.Found.{Finds, finds_none, finds_some, finds_as, none_found, found_holds, found_only}

@@ -2,11 +2,11 @@
 use Rattle.std.proofs.Common.{◌≡◌, ℕ, zero, suc, ◌+◌, ◌-◌, ◌<◌, ◌≤◌, false, length, map, drop, length-append, length-drop, arith, List, [], ◌∷◌, ◌++◌, append_assoc, append-nil, Some, None, refl, sym, ap, ◌∙◌, subst}
 use Rattle.std.specs.Prelude.{codes}
 use Rattle.std.proofs.lemmas.List.{length-map}
-use Rattle.sour_reader.specs.declared.raw.RawPlace.{RawPlace}
-use Rattle.sour_reader.specs.declared.raw.RawBind.{RawBind}
-use Rattle.sour_reader.specs.declared.raw.RawExtra.{RawExtra}
-use Rattle.sour_reader.specs.declared.raw.RawExit.{RawExit}
-use Rattle.sour_reader.specs.Exit.{SpellsPlace, SpellsBinds, SpellsExtra, SpellsExtras, SpellsExit}
+use Rattle.sour_raw.specs.declared.raw.RawPlace.{RawPlace}
+use Rattle.sour_raw.specs.declared.raw.RawBind.{RawBind}
+use Rattle.sour_raw.specs.declared.raw.RawExtra.{RawExtra}
+use Rattle.sour_raw.specs.declared.raw.RawExit.{RawExit}
+use Rattle.sour_raw.specs.Exit.{SpellsPlace, SpellsBinds, SpellsExtra, SpellsExtras, SpellsExit}
 use Rattle.sour_reader.specs.Parts.{IsPaired, bracketed, SplitsMap, SplitsExit, SplitsExtra, IsExtraOf}
 use Rattle.sour_reader.proofs.Found.{Finds, finds_none, finds_some, none_found, found_holds, found_only, MadeOfThree}
 use Rattle.sour_reader.proofs.Prefixes.{ReadsOn, reads_on_none, reads_on_more}

@@ -5,11 +5,11 @@ use Rattle.std.specs.Option.{option_map}
 use Rattle.sour_tokens.specs.Token.{IsWord}
 use Rattle.sour_syntax.specs.declared.expression.Op.{Op}
 use Rattle.sour_syntax.specs.Name.{IsName}
-use Rattle.sour_reader.specs.declared.raw.RawSimple.{RawSimple}
-use Rattle.sour_reader.specs.declared.raw.RawExpr.{RawExpr}
-use Rattle.sour_reader.specs.declared.raw.RawExpr.TheVariants.{Plain, Cell, Length, Not, Binary}
-use Rattle.sour_reader.specs.Operator.{op_spelling}
-use Rattle.sour_reader.specs.Expression.{SpellsSimple, SpellsExpr}
+use Rattle.sour_raw.specs.declared.raw.RawSimple.{RawSimple}
+use Rattle.sour_raw.specs.declared.raw.RawExpr.{RawExpr}
+use Rattle.sour_raw.specs.declared.raw.RawExpr.TheVariants.{Plain, Cell, Length, Not, Binary}
+use Rattle.sour_raw.specs.Operator.{op_spelling}
+use Rattle.sour_raw.specs.Expression.{SpellsSimple, SpellsExpr}
 use Rattle.sour_reader.specs.Parts.{SplitsSo, BeginsOperand, SpellsAfter}
 use Rattle.sour_reader.proofs.Operands.{BeginsNoOperand, no_operand_begins, no_empty_operand}
 use Rattle.sour_reader.proofs.Found.{Finds, finds_none, finds_as, finds_made, none_found, found_holds, found_only}

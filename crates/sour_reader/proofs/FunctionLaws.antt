@@ -1,10 +1,10 @@
 -- How the functions of a text are read.
 use Rattle.std.proofs.Common.{◌≡◌, ℕ, List, [], ◌∷◌, refl, sym, ◌∙◌, subst, inl, inr}
 use Rattle.std.specs.Prelude.{codes}
-use Rattle.sour_reader.specs.declared.raw.RawVersion.{RawVersion}
-use Rattle.sour_reader.specs.declared.raw.RawFunction.{RawFunction}
+use Rattle.sour_raw.specs.declared.raw.RawVersion.{RawVersion}
+use Rattle.sour_raw.specs.declared.raw.RawFunction.{RawFunction}
 use Rattle.sour_reader.specs.declared.heading.FunctionHeading.{FunctionHeading}
-use Rattle.sour_reader.specs.Job.{function_end}
+use Rattle.sour_raw.specs.Job.{function_end}
 use Rattle.sour_reader.specs.Ahead.{AheadView, FollowNext, AreLeft, ReadsAs, ReadsAsNone, OneLine}
 use Rattle.sour_reader.specs.Front.{HasVersions, IsFunctionHeading, heading_of, HasFunction, NoneOr, EndOr, IsHeading, AreBehindFunctions, EndFunctions}
 use Rattle.sour_reader.proofs.Readings.{Lines, Passes, GoesOn, reads_both, reads_none_first, reads_none_second, reads_before, reads_none_before}

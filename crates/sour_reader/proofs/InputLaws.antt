@@ -1,7 +1,7 @@
 -- How the inputs of a text are read.
 use Rattle.std.proofs.Common.{◌≡◌, ◌≤◌, List, [], ◌∷◌, length, refl, sym, subst, ◌∙◌, arith}
-use Rattle.sour_reader.specs.declared.raw.RawInput.{RawInput}
-use Rattle.sour_reader.specs.Inputs.{inputs_heading}
+use Rattle.sour_raw.specs.declared.raw.RawInput.{RawInput}
+use Rattle.sour_raw.specs.Inputs.{inputs_heading}
 use Rattle.sour_reader.specs.Ahead.{AheadView, AreLeft, ReadsAs, ReadsAsNone, OneLine, EachUpTo}
 use Rattle.sour_reader.specs.Front.{IsInput, EndText, HasEachInput, HasInputs}
 use Rattle.sour_reader.proofs.Readings.{Lines, left_at_end, left_some, Passes, GoesOn, ReadSoFar, reads_with, so_far_end, so_far_nowhere, so_far_longer}

@@ -4,13 +4,13 @@ use Rattle.std.specs.Prelude.{codes}
 use Rattle.std.specs.Option.{option_map}
 use Rattle.std.specs.Str.{bytes_eq}
 use Rattle.std.proofs.lemmas.List.{map-append}
-use Rattle.sour_reader.specs.declared.raw.RawExpr.{RawExpr}
-use Rattle.sour_reader.specs.declared.raw.RawInstr.{RawInstr}
-use Rattle.sour_reader.specs.declared.raw.RawInstr.TheVariants.{Var, Drop, Assign, ArrayLength, ArrayList, Store, Print, Read, Branch, Goto, Call, Return, Stop, Assume}
+use Rattle.sour_raw.specs.declared.raw.RawExpr.{RawExpr}
+use Rattle.sour_raw.specs.declared.raw.RawInstr.{RawInstr}
+use Rattle.sour_raw.specs.declared.raw.RawInstr.TheVariants.{Var, Drop, Assign, ArrayLength, ArrayList, Store, Print, Read, Branch, Goto, Call, Return, Stop, Assume}
 use Rattle.sour_syntax.specs.Name.{IsName, is_reserved}
-use Rattle.sour_reader.specs.Label.{IsLabel}
-use Rattle.sour_reader.specs.Expression.{SpellsExpr}
-use Rattle.sour_reader.specs.Instruction.{SpellsInstr}
+use Rattle.sour_raw.specs.Label.{IsLabel}
+use Rattle.sour_raw.specs.Expression.{SpellsExpr}
+use Rattle.sour_raw.specs.Instruction.{SpellsInstr}
 use Rattle.sour_reader.specs.Parts.{SpellsSetting, BeginsNone}
 use Rattle.sour_reader.proofs.Operands.{apart, no_reserved}
 use Rattle.sour_reader.proofs.Lists.{same_parts, first_same, behind_first}

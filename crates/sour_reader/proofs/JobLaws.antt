@@ -3,16 +3,16 @@ use Rattle.std.proofs.Common.{◌≡◌, ◌↔◌, ℕ, ◌≤◌, List, [], �
 use Rattle.std.specs.Prelude.{codes}
 use Rattle.std.specs.List.{AllByRecursion}
 use Rattle.sour_tokens.specs.Text.{HasTokenLines}
-use Rattle.sour_reader.specs.declared.raw.RawLine.{RawLine}
-use Rattle.sour_reader.specs.declared.raw.RawVersion.{RawVersion}
-use Rattle.sour_reader.specs.declared.raw.RawFunction.{RawFunction}
-use Rattle.sour_reader.specs.declared.raw.RawPlanJob.{RawPlanJob}
-use Rattle.sour_reader.specs.declared.raw.RawInput.{RawInput}
-use Rattle.sour_reader.specs.declared.raw.RawJob.{RawJob}
-use Rattle.sour_reader.specs.Plan.{SpellsEachJob, plan_heading, SpellsPlan}
-use Rattle.sour_reader.specs.Inputs.{SpellsEachInput, inputs_heading, SpellsInputs}
-use Rattle.sour_reader.specs.Limits.{HasShortInstrs, IsShortVersion, IsShortFunction, IsShortJob, IsShortInput, IsShort}
-use Rattle.sour_reader.specs.Job.{SpellsLines, SpellsVersion, SpellsVersions, SpellsFunction, SpellsFunctions, SpellsJob, Reads, parameters_spelling, version_heading, function_heading, function_end}
+use Rattle.sour_raw.specs.declared.raw.RawLine.{RawLine}
+use Rattle.sour_raw.specs.declared.raw.RawVersion.{RawVersion}
+use Rattle.sour_raw.specs.declared.raw.RawFunction.{RawFunction}
+use Rattle.sour_raw.specs.declared.raw.RawPlanJob.{RawPlanJob}
+use Rattle.sour_raw.specs.declared.raw.RawInput.{RawInput}
+use Rattle.sour_raw.specs.declared.raw.RawJob.{RawJob}
+use Rattle.sour_raw.specs.Plan.{SpellsEachJob, plan_heading, SpellsPlan}
+use Rattle.sour_raw.specs.Inputs.{SpellsEachInput, inputs_heading, SpellsInputs}
+use Rattle.sour_raw.specs.Limits.{HasShortInstrs, IsShortVersion, IsShortFunction, IsShortJob, IsShortInput, IsShort}
+use Rattle.sour_raw.specs.Job.{SpellsLines, SpellsVersion, SpellsVersions, SpellsFunction, SpellsFunctions, SpellsJob, Reads, parameters_spelling, version_heading, function_heading, function_end}
 use Rattle.sour_reader.specs.Ahead.{AheadView, AreLeft, ReadsAs, ReadsAsNone, OneLine, EachUpTo}
 use Rattle.sour_reader.specs.Front.{IsLine, BeginsVersionOrEnd, EndVersion, HasVersion, EndFunction, HasFunction, EndFunctions, HasFunctions, IsPlanJob, IsPlanHeading, NextIs, EndPlan, HasPlan, IsInput, EndText, HasInputs, HasOthers}
 use Rattle.sour_reader.proofs.Readings.{Lines, left_at_end, reads_both}

@@ -3,14 +3,14 @@ use Rattle.std.proofs.Common.{◌≡◌, inl, inr, ℕ, List, [], ◌∷◌, ◌
 use Rattle.std.specs.Prelude.{codes}
 use Rattle.std.specs.Option.{option_map}
 use Rattle.sour_tokens.specs.Token.{IsWord}
-use Rattle.sour_reader.specs.declared.raw.RawExpr.{RawExpr}
-use Rattle.sour_reader.specs.declared.raw.RawInstr.{RawInstr}
-use Rattle.sour_reader.specs.declared.raw.RawInstr.TheVariants.{Var, Drop, Assign, ArrayLength, ArrayList, Store, Print, Read, Branch, Goto, Call, Return, Stop, Assume}
-use Rattle.sour_reader.specs.declared.raw.RawLine.{RawLine}
+use Rattle.sour_raw.specs.declared.raw.RawExpr.{RawExpr}
+use Rattle.sour_raw.specs.declared.raw.RawInstr.{RawInstr}
+use Rattle.sour_raw.specs.declared.raw.RawInstr.TheVariants.{Var, Drop, Assign, ArrayLength, ArrayList, Store, Print, Read, Branch, Goto, Call, Return, Stop, Assume}
+use Rattle.sour_raw.specs.declared.raw.RawLine.{RawLine}
 use Rattle.sour_syntax.specs.Name.{IsName}
-use Rattle.sour_reader.specs.Label.{IsLabel}
-use Rattle.sour_reader.specs.Expression.{SpellsExpr, SpellsEach}
-use Rattle.sour_reader.specs.Instruction.{SpellsInstr, SpellsLabelled, SpellsLine}
+use Rattle.sour_raw.specs.Label.{IsLabel}
+use Rattle.sour_raw.specs.Expression.{SpellsExpr, SpellsEach}
+use Rattle.sour_raw.specs.Instruction.{SpellsInstr, SpellsLabelled, SpellsLine}
 use Rattle.sour_reader.specs.Parts.{HasNoColon}
 use Rattle.sour_reader.proofs.Operands.{apart, colon_begins_none}
 use Rattle.sour_reader.proofs.Expressions.{no_expr_begins, no_empty_expr}

@@ -1,9 +1,7 @@
 -- Lemmas of the reader.
-pub mod Digits
 mod Faults
 pub mod Prefixes
 pub mod Readings
-pub mod MentionLaws
 pub mod BodyLaws
 pub mod HeadingLaws
 pub mod FunctionLaws
@@ -13,7 +11,6 @@ pub mod JobLaws
 pub mod Found
 pub mod Instructions
 pub mod Labelled
-pub mod Labels
 pub mod Lists
 pub mod Operands
 pub mod Expressions
@@ -25,7 +22,6 @@ pub mod BindLaws
 pub mod ExitLaws
 pub mod ArrayLaws
 pub mod AssumeLaws
-pub mod ExitMentionLaws
 pub mod Paths
 pub mod Separated
 pub mod NoSeparators

@@ -8,16 +8,16 @@ use Rattle.sour_tokens.specs.Byte.{continues_word}
 use Rattle.sour_tokens.specs.Token.{IsDigits, IsWord}
 use Rattle.sour_syntax.specs.declared.plan.Start.{Start}
 use Rattle.sour_syntax.specs.declared.plan.Start.TheVariants.{Text, Active}
-use Rattle.sour_reader.specs.declared.raw.RawLiteral.{RawLiteral}
-use Rattle.sour_reader.specs.declared.raw.RawLiteral.TheVariants.{Number, Truth, Nil, Function}
-use Rattle.sour_reader.specs.declared.raw.RawPlanSimple.{RawPlanSimple}
-use Rattle.sour_reader.specs.declared.raw.RawPlanSimple.TheVariants.{Lit, Name}
-use Rattle.sour_reader.specs.declared.raw.RawPredicate.{RawPredicate}
-use Rattle.sour_reader.specs.declared.raw.RawPass.{RawPass}
-use Rattle.sour_reader.specs.declared.raw.RawPass.TheVariants.{Inject, Constprop, Unreachable, Inline, Move, Hoist, Compose, Prune}
-use Rattle.sour_reader.specs.Literal.{SpellsNumber, SpellsLiteral}
-use Rattle.sour_reader.specs.Label.{IsDecimal, IsAutomaticLabel, IsLabel}
-use Rattle.sour_reader.specs.Plan.{IsPart, AreParts, ArePath, SpellsAnchor, SpellsSide, SpellsPredicate, SpellsPoint, start_spelling, SpellsPass}
+use Rattle.sour_raw.specs.declared.raw.RawLiteral.{RawLiteral}
+use Rattle.sour_raw.specs.declared.raw.RawLiteral.TheVariants.{Number, Truth, Nil, Function}
+use Rattle.sour_raw.specs.declared.raw.RawPlanSimple.{RawPlanSimple}
+use Rattle.sour_raw.specs.declared.raw.RawPlanSimple.TheVariants.{Lit, Name}
+use Rattle.sour_raw.specs.declared.raw.RawPredicate.{RawPredicate}
+use Rattle.sour_raw.specs.declared.raw.RawPass.{RawPass}
+use Rattle.sour_raw.specs.declared.raw.RawPass.TheVariants.{Inject, Constprop, Unreachable, Inline, Move, Hoist, Compose, Prune}
+use Rattle.sour_raw.specs.Literal.{SpellsNumber, SpellsLiteral}
+use Rattle.sour_raw.specs.Label.{IsDecimal, IsAutomaticLabel, IsLabel}
+use Rattle.sour_raw.specs.Plan.{IsPart, AreParts, ArePath, SpellsAnchor, SpellsSide, SpellsPredicate, SpellsPoint, start_spelling, SpellsPass}
 use Rattle.sour_reader.specs.Separators.{HasNone}
 use Rattle.sour_reader.proofs.Operands.{apart, BeginsNoOperand}
 use Rattle.sour_syntax.proofs.Everywhere.{AllByRecursion-append}

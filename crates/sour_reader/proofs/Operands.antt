@@ -9,14 +9,14 @@ use Rattle.std.proofs.lemmas.Slice.Eq.{bytes_eq-Decides}
 use Rattle.sour_tokens.specs.Byte.{begins_word}
 use Rattle.sour_tokens.specs.Token.{IsDigits, IsWord}
 use Rattle.sour_syntax.proofs.LabelPlaces.{tested}
-use Rattle.sour_reader.specs.declared.raw.RawLiteral.{RawLiteral}
-use Rattle.sour_reader.specs.declared.raw.RawLiteral.TheVariants.{Number, Truth, Nil, Function}
-use Rattle.sour_reader.specs.declared.raw.RawSimple.{RawSimple}
-use Rattle.sour_reader.specs.declared.raw.RawSimple.TheVariants.{Lit, Name}
-use Rattle.sour_reader.specs.Literal.{SpellsNumber, SpellsLiteral}
+use Rattle.sour_raw.specs.declared.raw.RawLiteral.{RawLiteral}
+use Rattle.sour_raw.specs.declared.raw.RawLiteral.TheVariants.{Number, Truth, Nil, Function}
+use Rattle.sour_raw.specs.declared.raw.RawSimple.{RawSimple}
+use Rattle.sour_raw.specs.declared.raw.RawSimple.TheVariants.{Lit, Name}
+use Rattle.sour_raw.specs.Literal.{SpellsNumber, SpellsLiteral}
 use Rattle.sour_syntax.specs.Name.{IsName, is_reserved}
-use Rattle.sour_reader.specs.Expression.{SpellsSimple}
-use Rattle.sour_reader.specs.Operand.{operand_length}
+use Rattle.sour_raw.specs.Expression.{SpellsSimple}
+use Rattle.sour_raw.specs.Operand.{operand_length}
 use Rattle.sour_reader.specs.Parts.{SplitsSo}
 use Rattle.sour_reader.proofs.Lists.{same_parts}
 use Rattle.sour_reader.proofs.Found.{Finds, finds_none, finds_some, finds_made, none_found, found_holds, found_only}

@@ -6,18 +6,18 @@ use Rattle.std.specs.Str.{bytes_eq}
 use Rattle.sour_tokens.specs.Token.{IsWord}
 use Rattle.sour_syntax.specs.declared.plan.Start.{Start}
 use Rattle.sour_syntax.specs.declared.plan.Start.TheVariants.{Text, Active}
-use Rattle.sour_reader.specs.declared.raw.RawLiteral.{RawLiteral}
-use Rattle.sour_reader.specs.declared.raw.RawLiteral.TheVariants.{Number, Truth, Nil, Function}
-use Rattle.sour_reader.specs.declared.raw.RawSimple.TheVariants as simple
-use Rattle.sour_reader.specs.declared.raw.RawPlanSimple.{RawPlanSimple}
-use Rattle.sour_reader.specs.declared.raw.RawPlanSimple.TheVariants.{Lit, Name}
-use Rattle.sour_reader.specs.declared.raw.RawPredicate.{RawPredicate}
-use Rattle.sour_reader.specs.declared.raw.RawPass.{RawPass}
-use Rattle.sour_reader.specs.declared.raw.RawPass.TheVariants.{Inject, Constprop, Unreachable, Inline, Move, Hoist, Compose, Prune}
-use Rattle.sour_reader.specs.Literal.{SpellsNumber, SpellsLiteral}
+use Rattle.sour_raw.specs.declared.raw.RawLiteral.{RawLiteral}
+use Rattle.sour_raw.specs.declared.raw.RawLiteral.TheVariants.{Number, Truth, Nil, Function}
+use Rattle.sour_raw.specs.declared.raw.RawSimple.TheVariants as simple
+use Rattle.sour_raw.specs.declared.raw.RawPlanSimple.{RawPlanSimple}
+use Rattle.sour_raw.specs.declared.raw.RawPlanSimple.TheVariants.{Lit, Name}
+use Rattle.sour_raw.specs.declared.raw.RawPredicate.{RawPredicate}
+use Rattle.sour_raw.specs.declared.raw.RawPass.{RawPass}
+use Rattle.sour_raw.specs.declared.raw.RawPass.TheVariants.{Inject, Constprop, Unreachable, Inline, Move, Hoist, Compose, Prune}
+use Rattle.sour_raw.specs.Literal.{SpellsNumber, SpellsLiteral}
 use Rattle.sour_syntax.specs.Name.{is_reserved}
-use Rattle.sour_reader.specs.Label.{IsLabel}
-use Rattle.sour_reader.specs.Plan.{ArePath, SpellsPath, SpellsAnchor, SpellsSide, SpellsPredicate, SpellsPoint, start_spelling, SpellsPass, SpellsPasses}
+use Rattle.sour_raw.specs.Label.{IsLabel}
+use Rattle.sour_raw.specs.Plan.{ArePath, SpellsPath, SpellsAnchor, SpellsSide, SpellsPredicate, SpellsPoint, start_spelling, SpellsPass, SpellsPasses}
 use Rattle.sour_reader.specs.Separators.{HasNone, EndsPath, BeginsAnchor, SpellsSomePasses}
 use Rattle.sour_reader.proofs.Operands.{apart, digits_no_word, no_reserved, BeginsNoOperand, no_operand_begins, no_empty_operand}
 use Rattle.sour_reader.proofs.Found.{Finds, finds_none, finds_some, finds_as, finds_made, none_found, found_holds, found_only}

@@ -2,8 +2,8 @@
 use Rattle.std.proofs.Common.{◌≡◌, ◌↔◌, ℕ, List, [], ◌∷◌, ◌++◌, Option, Some, None, Result, Ok, Err, IfOk, append_assoc, append-nil, refl, sym, ap, ◌∙◌, subst}
 use Rattle.std.specs.Prelude.{codes, IfSome, IfNone}
 use Rattle.std.specs.List.{concat}
-use Rattle.sour_reader.specs.Label.{IsLabel}
-use Rattle.sour_reader.specs.Plan.{IsPart, AreParts, SpellsPath, SpellsAnchor}
+use Rattle.sour_raw.specs.Label.{IsLabel}
+use Rattle.sour_raw.specs.Plan.{IsPart, AreParts, SpellsPath, SpellsAnchor}
 use Rattle.sour_reader.specs.Separators.{EndsPath, BeginsPath, BeginsAnchor}
 use Rattle.sour_reader.proofs.Found.{Finds, finds_none, finds_some, finds_as}
 

@@ -2,11 +2,11 @@
 use Rattle.std.proofs.Common.{◌≡◌, ℕ, ◌≤◌, List, [], ◌∷◌, Some, None, length, refl, sym, ap, ◌∙◌, subst, inl, inr, arith}
 use Rattle.std.specs.Prelude.{codes}
 use Rattle.sour_syntax.specs.declared.plan.Start.{Start}
-use Rattle.sour_reader.specs.declared.raw.RawPass.{RawPass}
-use Rattle.sour_reader.specs.declared.raw.RawPlanJob.{RawPlanJob}
+use Rattle.sour_raw.specs.declared.raw.RawPass.{RawPass}
+use Rattle.sour_raw.specs.declared.raw.RawPlanJob.{RawPlanJob}
 use Rattle.sour_syntax.specs.Name.{IsName}
-use Rattle.sour_reader.specs.Plan.{start_spelling, SpellsPasses, SpellsPlanJob, plan_heading}
-use Rattle.sour_reader.specs.Limits.{IsShortJob}
+use Rattle.sour_raw.specs.Plan.{start_spelling, SpellsPasses, SpellsPlanJob, plan_heading}
+use Rattle.sour_raw.specs.Limits.{IsShortJob}
 use Rattle.sour_reader.specs.Ahead.{AheadView, AreLeft, ReadsAs, ReadsAsNone, OneLine, EachUpTo}
 use Rattle.sour_reader.specs.Front.{IsPlanJob, IsPlanHeading, IsInputsHeading, NextIs, AreBehindPlan, EndPlan, HasEachJob, HasPlan}
 use Rattle.sour_reader.proofs.Lists.{first_same}

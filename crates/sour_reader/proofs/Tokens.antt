@@ -8,16 +8,16 @@ use Rattle.sour_tokens.specs.Token.{IsDigits, IsWord}
 use Rattle.sour_syntax.specs.declared.expression.Op.{Op}
 use Rattle.sour_syntax.specs.declared.expression.Op.TheVariants.{Add, Sub, Mul, Div, Rem, Eq, Ne, Lt, Le, Gt, Ge, And, Or}
 use Rattle.sour_syntax.proofs.Everywhere.{AllByRecursion-weaker, AllByRecursion-append}
-use Rattle.sour_reader.specs.declared.raw.RawLiteral.{RawLiteral}
-use Rattle.sour_reader.specs.declared.raw.RawLiteral.TheVariants.{Number, Truth, Nil, Function}
-use Rattle.sour_reader.specs.declared.raw.RawSimple.{RawSimple}
-use Rattle.sour_reader.specs.declared.raw.RawSimple.TheVariants.{Lit, Name}
-use Rattle.sour_reader.specs.declared.raw.RawExpr.{RawExpr}
-use Rattle.sour_reader.specs.declared.raw.RawExpr.TheVariants.{Plain, Cell, Length, Not, Binary}
+use Rattle.sour_raw.specs.declared.raw.RawLiteral.{RawLiteral}
+use Rattle.sour_raw.specs.declared.raw.RawLiteral.TheVariants.{Number, Truth, Nil, Function}
+use Rattle.sour_raw.specs.declared.raw.RawSimple.{RawSimple}
+use Rattle.sour_raw.specs.declared.raw.RawSimple.TheVariants.{Lit, Name}
+use Rattle.sour_raw.specs.declared.raw.RawExpr.{RawExpr}
+use Rattle.sour_raw.specs.declared.raw.RawExpr.TheVariants.{Plain, Cell, Length, Not, Binary}
 use Rattle.sour_syntax.specs.Name.{IsName}
-use Rattle.sour_reader.specs.Literal.{SpellsNumber, SpellsLiteral}
-use Rattle.sour_reader.specs.Operator.{op_spelling}
-use Rattle.sour_reader.specs.Expression.{SpellsSimple, SpellsExpr}
+use Rattle.sour_raw.specs.Literal.{SpellsNumber, SpellsLiteral}
+use Rattle.sour_raw.specs.Operator.{op_spelling}
+use Rattle.sour_raw.specs.Expression.{SpellsSimple, SpellsExpr}
 use Rattle.sour_reader.specs.Separators.{HasNone}
 use Rattle.sour_reader.proofs.Operands.{apart, no_reserved}
 

@@ -3,11 +3,11 @@ use Rattle.std.proofs.Common.{◌≡◌, ◌↔◌, ℕ, zero, suc, ◌+◌, ◌
 use Rattle.std.proofs.lemmas.List.{drop-drop}
 use Rattle.std.specs.Prelude.{codes}
 use Rattle.std.specs.List.{AllByRecursion}
-use Rattle.sour_reader.specs.declared.raw.RawLiteral.{RawLiteral}
-use Rattle.sour_reader.specs.declared.raw.RawInput.{RawInput}
-use Rattle.sour_reader.specs.Literal.{SpellsLiteral}
-use Rattle.sour_reader.specs.Inputs.{SpellsValues}
-use Rattle.sour_reader.specs.Operand.{operand_length}
+use Rattle.sour_raw.specs.declared.raw.RawLiteral.{RawLiteral}
+use Rattle.sour_raw.specs.declared.raw.RawInput.{RawInput}
+use Rattle.sour_raw.specs.Literal.{SpellsLiteral}
+use Rattle.sour_raw.specs.Inputs.{SpellsValues}
+use Rattle.sour_raw.specs.Operand.{operand_length}
 use Rattle.sour_reader.specs.Front.{IsInput}
 use Rattle.sour_reader.proofs.Operands.{literal_length}
 use Rattle.sour_reader.proofs.Lists.{same_parts}

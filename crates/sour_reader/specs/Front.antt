@@ -1,19 +1,19 @@
 -- What lines spell before the lines that follow them.
 use Rattle.std.specs.Prelude.{◌≡◌, ◌≤◌, ◌⊎◌, ℕ, List, [], ◌∷◌, ◌++◌, length, codes, ⊤}
 use Rattle.std.specs.List.{AllByRecursion}
-use Rattle.sour_reader.specs.declared.raw.RawLine.{RawLine}
-use Rattle.sour_reader.specs.declared.raw.RawVersion.{RawVersion}
-use Rattle.sour_reader.specs.declared.raw.RawFunction.{RawFunction}
-use Rattle.sour_reader.specs.declared.raw.RawPlanJob.{RawPlanJob}
-use Rattle.sour_reader.specs.declared.raw.RawInput.{RawInput}
+use Rattle.sour_raw.specs.declared.raw.RawLine.{RawLine}
+use Rattle.sour_raw.specs.declared.raw.RawVersion.{RawVersion}
+use Rattle.sour_raw.specs.declared.raw.RawFunction.{RawFunction}
+use Rattle.sour_raw.specs.declared.raw.RawPlanJob.{RawPlanJob}
+use Rattle.sour_raw.specs.declared.raw.RawInput.{RawInput}
 use Rattle.sour_reader.specs.declared.heading.FunctionHeading.{FunctionHeading}
 use Rattle.sour_syntax.specs.Name.{IsName}
-use Rattle.sour_reader.specs.Mentions.{variables_of}
-use Rattle.sour_reader.specs.Instruction.{SpellsLine}
-use Rattle.sour_reader.specs.Plan.{SpellsPlanJob, plan_heading}
-use Rattle.sour_reader.specs.Inputs.{SpellsInput, inputs_heading}
-use Rattle.sour_reader.specs.Limits.{IsShortInstr, IsShortJob, IsShortInput}
-use Rattle.sour_reader.specs.Job.{version_heading, parameters_spelling, function_end}
+use Rattle.sour_raw.specs.Mentions.{variables_of}
+use Rattle.sour_raw.specs.Instruction.{SpellsLine}
+use Rattle.sour_raw.specs.Plan.{SpellsPlanJob, plan_heading}
+use Rattle.sour_raw.specs.Inputs.{SpellsInput, inputs_heading}
+use Rattle.sour_raw.specs.Limits.{IsShortInstr, IsShortJob, IsShortInput}
+use Rattle.sour_raw.specs.Job.{version_heading, parameters_spelling, function_end}
 use Rattle.sour_reader.specs.Ahead.{OneLine, EachUpTo}
 
 -- the line begins with the word with which a version begins or a function ends

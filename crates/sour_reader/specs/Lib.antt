@@ -1,17 +1,5 @@
-pub mod Literal
-pub mod Operator
-pub mod Operand
-pub mod Label
-pub mod Expression
-pub mod Exit
-pub mod Instruction
 pub mod Parts
-pub mod Mentions
-pub mod Plan
 pub mod Separators
-pub mod Inputs
-pub mod Limits
-pub mod Job
 pub mod Fault
 pub mod Ahead
 pub mod Front

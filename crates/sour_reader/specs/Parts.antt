@@ -3,14 +3,14 @@ use Rattle.std.specs.Prelude.{◌≡◌, ◌≤◌, ◌<◌, ◌+◌, ℕ, Bool,
 use Rattle.std.specs.Str.{bytes_eq}
 use Rattle.sour_tokens.specs.declared.tokens.Token.{Token}
 use Rattle.sour_tokens.specs.Token.{spelling}
-use Rattle.sour_reader.specs.declared.raw.RawSimple.{RawSimple}
-use Rattle.sour_reader.specs.declared.raw.RawExpr.{RawExpr}
-use Rattle.sour_reader.specs.declared.raw.RawExpr.TheVariants.{Plain, Cell, Length, Not, Binary}
+use Rattle.sour_raw.specs.declared.raw.RawSimple.{RawSimple}
+use Rattle.sour_raw.specs.declared.raw.RawExpr.{RawExpr}
+use Rattle.sour_raw.specs.declared.raw.RawExpr.TheVariants.{Plain, Cell, Length, Not, Binary}
 use Rattle.sour_syntax.specs.Name.{IsName}
-use Rattle.sour_reader.specs.Operator.{op_spelling}
-use Rattle.sour_reader.specs.declared.raw.RawExtra.{RawExtra}
-use Rattle.sour_reader.specs.Expression.{SpellsSimple, SpellsExpr, SpellsListed}
-use Rattle.sour_reader.specs.Exit.{SpellsPlace, SpellsBinds}
+use Rattle.sour_raw.specs.Operator.{op_spelling}
+use Rattle.sour_raw.specs.declared.raw.RawExtra.{RawExtra}
+use Rattle.sour_raw.specs.Expression.{SpellsSimple, SpellsExpr, SpellsListed}
+use Rattle.sour_raw.specs.Exit.{SpellsPlace, SpellsBinds}
 
 -- the tokens behind the first operand spell the rest of the expression
 abbrev pub SpellsAfter : RawSimple → RawExpr → List (List ℕ) → Type 0

@@ -3,8 +3,8 @@ use Rattle.std.specs.Prelude.{◌≡◌, ◌≤◌, ◌<◌, ◌+◌, ℕ, List,
 use Rattle.std.specs.List.{AllByRecursion}
 use Rattle.sour_tokens.specs.declared.tokens.Token.{Token}
 use Rattle.sour_tokens.specs.Token.{spelling}
-use Rattle.sour_reader.specs.declared.raw.RawPass.{RawPass}
-use Rattle.sour_reader.specs.Plan.{SpellsPath, SpellsAnchor, SpellsPasses}
+use Rattle.sour_raw.specs.declared.raw.RawPass.{RawPass}
+use Rattle.sour_raw.specs.Plan.{SpellsPath, SpellsAnchor, SpellsPasses}
 
 -- none of the tokens is this one
 abbrev pub HasNone : List ℕ → List (List ℕ) → Type 0

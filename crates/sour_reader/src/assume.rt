@@ -3,13 +3,13 @@
 ghost use Rattle.std.specs.Prelude.{◌≡◌, ◌↔◌, ◌∷◌, Some, map, codes, IfOk};
 ghost use Rattle.std.specs.List.{AllByRecursion};
 ghost use Rattle.sour_tokens.specs.Token.{spelling, IsOfItsKind};
-ghost use Rattle.sour_reader.specs.declared.raw.RawInstr.{RawInstr};
-ghost use Rattle.sour_reader.specs.Instruction.{SpellsInstr};
+ghost use Rattle.sour_raw.specs.declared.raw.RawInstr.{RawInstr};
+ghost use Rattle.sour_raw.specs.Instruction.{SpellsInstr};
 
 use crate::bracket::split_else;
 use crate::exit::exit_of;
 use crate::expression_list::expressions_of;
-use crate::raw::RawInstr;
+use sour_raw::RawInstr;
 use sour_tokens::Token;
 use std::alloc::{AllocError, Global};
 

@@ -3,14 +3,14 @@
 ghost use Rattle.std.specs.Prelude.{◌≡◌, ◌↔◌, ◌∷◌, ◌++◌, [], ℕ, List, Some, map, codes, IfOk, IfSome, IfNone};
 ghost use Rattle.std.specs.List.{AllByRecursion};
 ghost use Rattle.sour_tokens.specs.Token.{spelling, IsOfItsKind};
-ghost use Rattle.sour_reader.specs.declared.raw.RawInstr.{RawInstr};
-ghost use Rattle.sour_reader.specs.Instruction.{SpellsInstr};
+ghost use Rattle.sour_raw.specs.declared.raw.RawInstr.{RawInstr};
+ghost use Rattle.sour_raw.specs.Instruction.{SpellsInstr};
 
 use crate::bracket::{before_last, behind_symbol};
 use crate::expression_list::expressions_of;
 use crate::label::name_of;
 use crate::operand::{simple_of, split_operand};
-use crate::raw::RawInstr;
+use sour_raw::RawInstr;
 use sour_tokens::{Symbol, Token};
 use std::alloc::{AllocError, Global};
 

@@ -3,16 +3,16 @@
 ghost use Rattle.std.specs.Prelude.{◌≡◌, ◌↔◌, List as Listed, Some, map, IfOk};
 ghost use Rattle.std.specs.List.{AllByRecursion};
 ghost use Rattle.sour_tokens.specs.Token.{spelling, IsOfItsKind};
-ghost use Rattle.sour_reader.specs.declared.raw.RawExtra.{RawExtra};
-ghost use Rattle.sour_reader.specs.declared.raw.RawExit.{RawExit};
-ghost use Rattle.sour_reader.specs.Exit.{SpellsExtras, SpellsExit};
+ghost use Rattle.sour_raw.specs.declared.raw.RawExtra.{RawExtra};
+ghost use Rattle.sour_raw.specs.declared.raw.RawExit.{RawExit};
+ghost use Rattle.sour_raw.specs.Exit.{SpellsExtras, SpellsExit};
 ghost use Rattle.sour_reader.specs.Parts.{IsExtraOf};
 
 use crate::exit_split::{split_exit, split_extra};
 use crate::label::name_of;
 use crate::map::binds_of;
 use crate::place::place_of;
-use crate::raw::{RawExit, RawExtra};
+use sour_raw::{RawExit, RawExtra};
 use sour_syntax::List;
 use sour_tokens::Token;
 use std::alloc::{AllocError, Global};

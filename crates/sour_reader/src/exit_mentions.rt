@@ -2,11 +2,11 @@
 //! there are more than a version may have.
 
 ghost use Rattle.std.specs.Prelude.{◌+◌, ◌*◌, ◌<◌, ◌^◌, ◌++◌, length, OnOk};
-ghost use Rattle.sour_reader.specs.Mentions.{expr_names, each_names, map_names, all_names, extra_names, exit_names, with_names, AreOrBothMany};
+ghost use Rattle.sour_raw.specs.Mentions.{expr_names, each_names, map_names, all_names, extra_names, exit_names, with_names, AreOrBothMany};
 
 use crate::limits::MAX_VARIABLES;
 use crate::mentions::{add_each, add_expr};
-use crate::raw::{RawBind, RawExit, RawExpr, RawExtra};
+use sour_raw::{RawBind, RawExit, RawExpr, RawExtra};
 use sour_syntax::{List, Names};
 use std::alloc::{AllocError, Global};
 

@@ -3,8 +3,8 @@
 ghost use Rattle.std.specs.Prelude.{◌≡◌, ◌↔◌, ◌∷◌, Some, map, codes, IfOk};
 ghost use Rattle.std.specs.List.{AllByRecursion};
 ghost use Rattle.sour_tokens.specs.Token.{spelling, IsOfItsKind};
-ghost use Rattle.sour_reader.specs.declared.raw.RawExpr.{RawExpr};
-ghost use Rattle.sour_reader.specs.Expression.{SpellsExpr};
+ghost use Rattle.sour_raw.specs.declared.raw.RawExpr.{RawExpr};
+ghost use Rattle.sour_raw.specs.Expression.{SpellsExpr};
 ghost use Rattle.sour_reader.specs.Parts.{SpellsAfter, BeginsOperand};
 
 use crate::bracket::{before_last, behind_symbol};
@@ -12,7 +12,7 @@ use crate::kind::{is_symbol, is_word};
 use crate::label::name_of;
 use crate::operand::{simple_of, split_operand};
 use crate::operator::operator_of;
-use crate::raw::{RawExpr, RawSimple};
+use sour_raw::{RawExpr, RawSimple};
 use sour_tokens::{Symbol, Token};
 use std::alloc::{AllocError, Global};
 

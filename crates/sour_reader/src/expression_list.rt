@@ -3,13 +3,13 @@
 ghost use Rattle.std.specs.Prelude.{◌≡◌, ◌↔◌, List as Listed, Some, map, IfOk};
 ghost use Rattle.std.specs.List.{AllByRecursion};
 ghost use Rattle.sour_tokens.specs.Token.{spelling, IsOfItsKind};
-ghost use Rattle.sour_reader.specs.declared.raw.RawExpr.{RawExpr};
-ghost use Rattle.sour_reader.specs.Expression.{SpellsExpr, SpellsEach};
+ghost use Rattle.sour_raw.specs.declared.raw.RawExpr.{RawExpr};
+ghost use Rattle.sour_raw.specs.Expression.{SpellsExpr, SpellsEach};
 ghost use Rattle.sour_reader.specs.Parts.{SpellsSome};
 
 use crate::expression::expression_of;
-use crate::raw::RawExpr;
 use crate::separator::symbol_place;
+use sour_raw::RawExpr;
 use sour_syntax::List;
 use sour_tokens::{Symbol, Token};
 use std::alloc::{AllocError, Global};

@@ -7,8 +7,8 @@ ghost use Rattle.sour_reader.specs.Front.{HasFunction, HasFunctions, AreBehindFu
 use crate::ahead::LinesAhead;
 use crate::fault::TextFault;
 use crate::heading::{FunctionHeading, are_behind_functions, function_heading};
-use crate::raw::RawFunction;
 use crate::version::read_versions;
+use sour_raw::RawFunction;
 use sour_syntax::List;
 use std::alloc::Global;
 

@@ -6,9 +6,9 @@ ghost use Rattle.std.specs.List.{AllByRecursion};
 ghost use Rattle.std.specs.Option.{option_copied};
 ghost use Rattle.sour_tokens.specs.Token.{spelling, IsOfItsKind};
 ghost use Rattle.sour_syntax.specs.Name.{IsName};
-ghost use Rattle.sour_reader.specs.Plan.{plan_heading};
-ghost use Rattle.sour_reader.specs.Inputs.{inputs_heading};
-ghost use Rattle.sour_reader.specs.Job.{function_end};
+ghost use Rattle.sour_raw.specs.Plan.{plan_heading};
+ghost use Rattle.sour_raw.specs.Inputs.{inputs_heading};
+ghost use Rattle.sour_raw.specs.Job.{function_end};
 ghost use Rattle.sour_reader.specs.declared.heading.FunctionHeading.{FunctionHeading};
 ghost use Rattle.sour_reader.specs.Front.{BeginsVersionOrEnd, IsVersionHeading, ListsSome, ListsParameters, IsFunctionHeading, AreBehindFunctions, AreBehindPlan};
 

@@ -3,9 +3,9 @@
 ghost use Rattle.std.specs.Prelude.{◌≡◌, ◌≤◌, ◌<◌, ◌↔◌, ◌∷◌, [], List as Listed, map, drop, IfSome, IfNone, Some, length, IfOk, OnOk, IsErrOf};
 ghost use Rattle.std.specs.List.{AllByRecursion};
 ghost use Rattle.sour_tokens.specs.Token.{spelling, IsOfItsKind};
-ghost use Rattle.sour_reader.specs.declared.raw.RawLiteral.{RawLiteral};
-ghost use Rattle.sour_reader.specs.declared.raw.RawInput.{RawInput};
-ghost use Rattle.sour_reader.specs.Inputs.{SpellsValues};
+ghost use Rattle.sour_raw.specs.declared.raw.RawLiteral.{RawLiteral};
+ghost use Rattle.sour_raw.specs.declared.raw.RawInput.{RawInput};
+ghost use Rattle.sour_raw.specs.Inputs.{SpellsValues};
 ghost use Rattle.sour_reader.specs.Ahead.{ReadsAs, ReadsAsNone};
 ghost use Rattle.sour_reader.specs.Front.{IsInput, HasEachInput, HasInputs};
 
@@ -15,7 +15,7 @@ use crate::heading::is_inputs_heading;
 use crate::kind::is_word;
 use crate::literal::literal_of;
 use crate::operand::operand_length;
-use crate::raw::{RawInput, RawLiteral};
+use sour_raw::{RawInput, RawLiteral};
 use sour_syntax::List;
 use sour_tokens::Token;
 use std::alloc::{AllocError, Global};

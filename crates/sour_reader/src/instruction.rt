@@ -3,8 +3,8 @@
 ghost use Rattle.std.specs.Prelude.{◌≡◌, ◌↔◌, ◌∷◌, Some, map, codes, IfOk};
 ghost use Rattle.std.specs.List.{AllByRecursion};
 ghost use Rattle.sour_tokens.specs.Token.{spelling, IsOfItsKind};
-ghost use Rattle.sour_reader.specs.declared.raw.RawInstr.{RawInstr};
-ghost use Rattle.sour_reader.specs.Instruction.{SpellsInstr};
+ghost use Rattle.sour_raw.specs.declared.raw.RawInstr.{RawInstr};
+ghost use Rattle.sour_raw.specs.Instruction.{SpellsInstr};
 ghost use Rattle.sour_reader.specs.Parts.{BeginsNone};
 
 use crate::array_instruction::{array_of, store_of};
@@ -14,8 +14,8 @@ use crate::call::call_of;
 use crate::expression::expression_of;
 use crate::kind::is_word;
 use crate::label::{label_of, only_label, only_name};
-use crate::raw::RawInstr;
 use crate::setting::setting_of;
+use sour_raw::RawInstr;
 use sour_tokens::{Symbol, Token};
 use std::alloc::{AllocError, Global};
 

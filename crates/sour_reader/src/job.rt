@@ -1,15 +1,15 @@
 //! A text as a whole.
 
 ghost use Rattle.std.specs.Prelude.{◌≡◌, ◌↔◌, IfOk, IsErrOf};
-ghost use Rattle.sour_reader.specs.declared.raw.RawJob.{RawJob};
-ghost use Rattle.sour_reader.specs.Job.{Reads};
+ghost use Rattle.sour_raw.specs.declared.raw.RawJob.{RawJob};
+ghost use Rattle.sour_raw.specs.Job.{Reads};
 
 use crate::ahead::LinesAhead;
 use crate::fault::TextFault;
 use crate::function::read_functions;
 use crate::inputs::read_inputs;
 use crate::plan::read_plan;
-use crate::raw::RawJob;
+use sour_raw::RawJob;
 use std::alloc::Global;
 
 /// What a text says. One pass over the bytes, and one over the lines.

@@ -6,7 +6,7 @@ ghost use Rattle.std.specs.List.{AllByRecursion, list_all};
 ghost use Rattle.std.specs.Char.{is_ascii_digit};
 ghost use Rattle.sour_tokens.specs.Token.{spelling, IsOfItsKind, IsDigits};
 ghost use Rattle.sour_syntax.specs.Name.{IsName};
-ghost use Rattle.sour_reader.specs.Label.{IsDecimal, IsAutomaticLabel, IsLabel};
+ghost use Rattle.sour_raw.specs.Label.{IsDecimal, IsAutomaticLabel, IsLabel};
 
 use crate::name::{is_name, token_name};
 use sour_syntax::Label;

@@ -1,9 +1,9 @@
 //! How long an instruction is.
 
 ghost use Rattle.std.specs.Prelude.{◌↔◌, IsTrue};
-ghost use Rattle.sour_reader.specs.Limits.{IsShortInstr};
+ghost use Rattle.sour_raw.specs.Limits.{IsShortInstr};
 
-use crate::raw::RawInstr;
+use sour_raw::RawInstr;
 
 /// The most elements that an array is written with.
 const MAX_ELEMENTS: usize = 1024;

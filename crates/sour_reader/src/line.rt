@@ -3,8 +3,8 @@
 ghost use Rattle.std.specs.Prelude.{◌≡◌, ◌↔◌, ◌∷◌, Some, map, codes, IfOk};
 ghost use Rattle.std.specs.List.{AllByRecursion};
 ghost use Rattle.sour_tokens.specs.Token.{spelling, IsOfItsKind};
-ghost use Rattle.sour_reader.specs.declared.raw.RawLine.{RawLine};
-ghost use Rattle.sour_reader.specs.Instruction.{SpellsLine};
+ghost use Rattle.sour_raw.specs.declared.raw.RawLine.{RawLine};
+ghost use Rattle.sour_raw.specs.Instruction.{SpellsLine};
 ghost use Rattle.sour_reader.specs.Parts.{HasNoColon};
 ghost use Rattle.sour_reader.specs.Front.{IsLine};
 
@@ -12,7 +12,7 @@ use crate::instruction::instruction_of;
 use crate::kind::is_symbol;
 use crate::label::name_of;
 use crate::limits::is_short;
-use crate::raw::RawLine;
+use sour_raw::RawLine;
 use sour_tokens::{Symbol, Token};
 use std::alloc::{AllocError, Global};
 

@@ -6,18 +6,18 @@ ghost use Rattle.std.specs.Int.{w64};
 ghost use Rattle.std.specs.List.{AllByRecursion};
 ghost use Rattle.std.specs.Str.Parse.{digits_value};
 ghost use Rattle.sour_tokens.specs.Token.{spelling, IsOfItsKind, IsWord, IsDigits};
-ghost use Rattle.sour_reader.specs.declared.raw.RawLiteral.{RawLiteral};
-ghost use Rattle.sour_reader.specs.Literal.{SpellsLiteral};
+ghost use Rattle.sour_raw.specs.declared.raw.RawLiteral.{RawLiteral};
+ghost use Rattle.sour_raw.specs.Literal.{SpellsLiteral};
 
 use crate::kind::is_symbol;
 use crate::label::name_of;
-use crate::raw::RawLiteral;
+use sour_raw::RawLiteral;
 use sour_tokens::{Symbol, Token};
 use std::alloc::{AllocError, Global};
 use std::str;
 
 /// The number that digits write; none where it has more than 64 bits.
-#[tactic(auto, using(crate::proofs::Digits::utf8_from_token, crate::proofs::Digits::parse_from_token))]
+#[tactic(auto, using(sour_raw::proofs::Digits::utf8_from_token, sour_raw::proofs::Digits::parse_from_token))]
 fn magnitude_of(digits: &[u8]) -> Option<u64>
     requires { IsDigits digits.now }
     ensures { SomeIff result (digits_value 10 digits.now < 2 ^ 64) (digits_value 10 digits.now) }

@@ -3,13 +3,13 @@
 ghost use Rattle.std.specs.Prelude.{◌≡◌, ◌↔◌, List as Listed, Some, map, IfOk};
 ghost use Rattle.std.specs.List.{AllByRecursion};
 ghost use Rattle.sour_tokens.specs.Token.{spelling, IsOfItsKind};
-ghost use Rattle.sour_reader.specs.declared.raw.RawBind.{RawBind};
-ghost use Rattle.sour_reader.specs.Exit.{SpellsBind, SpellsBinds};
+ghost use Rattle.sour_raw.specs.declared.raw.RawBind.{RawBind};
+ghost use Rattle.sour_raw.specs.Exit.{SpellsBind, SpellsBinds};
 ghost use Rattle.sour_reader.specs.Parts.{SpellsSome};
 
-use crate::raw::RawBind;
 use crate::separator::symbol_place;
 use crate::setting::setting_of;
+use sour_raw::RawBind;
 use sour_syntax::List;
 use sour_tokens::{Symbol, Token};
 use std::alloc::{AllocError, Global};

@@ -1,11 +1,11 @@
 //! The variables that are mentioned, each once.
 
 ghost use Rattle.std.specs.Prelude.{◌≡◌, ◌+◌, ◌*◌, ◌<◌, ◌^◌, ◌++◌, [], length, IfOk, OnOk};
-ghost use Rattle.sour_reader.specs.Limits.{IsShortInstr};
-ghost use Rattle.sour_reader.specs.Mentions.{simple_names, expr_names, each_names, instr_names, with_name, with_names, AreOrBothMany};
+ghost use Rattle.sour_raw.specs.Limits.{IsShortInstr};
+ghost use Rattle.sour_raw.specs.Mentions.{simple_names, expr_names, each_names, instr_names, with_name, with_names, AreOrBothMany};
 
 use crate::exit_mentions::add_assume;
-use crate::raw::{RawExpr, RawInstr, RawSimple};
+use sour_raw::{RawExpr, RawInstr, RawSimple};
 use sour_syntax::{Label, List, Names};
 use std::alloc::{AllocError, Global};
 
@@ -30,7 +30,7 @@ fn add_simple(alloc: Global, operand: &RawSimple, names: &mut Names) -> Result<(
 }
 
 /// Puts each name in an expression behind the others where it isn't there yet.
-#[tactic(auto, using(crate::proofs::MentionLaws::with_names_append, crate::proofs::MentionLaws::with_names_length))]
+#[tactic(auto, using(sour_raw::proofs::MentionLaws::with_names_append, sour_raw::proofs::MentionLaws::with_names_length))]
 pub(crate) fn add_expr(alloc: Global, value: &RawExpr, names: &mut Names) -> Result<(), AllocError>
     requires { length names.old + 1 < 2 ^ 32 }
     ensures { OnOk result (names.new ≡ with_names names.old (expr_names value.now)) }
@@ -52,7 +52,7 @@ pub(crate) fn add_expr(alloc: Global, value: &RawExpr, names: &mut Names) -> Res
 
 /// Puts a variable, and each name in the value that it is given, behind the others where it isn't there
 /// yet.
-#[tactic(auto, using(crate::proofs::MentionLaws::with_name_length))]
+#[tactic(auto, using(sour_raw::proofs::MentionLaws::with_name_length))]
 fn add_setting(
     alloc: Global,
     name: &Label,

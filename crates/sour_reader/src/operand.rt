@@ -3,15 +3,15 @@
 ghost use Rattle.std.specs.Prelude.{◌≡◌, ◌↔◌, ◌++◌, ℕ, List, Some, map, IfOk, IfSome, IfNone};
 ghost use Rattle.std.specs.List.{AllByRecursion};
 ghost use Rattle.sour_tokens.specs.Token.{spelling, IsOfItsKind};
-ghost use Rattle.sour_reader.specs.declared.raw.RawSimple.{RawSimple};
-ghost use Rattle.sour_reader.specs.Expression.{SpellsSimple};
-ghost use Rattle.sour_reader.specs.Operand.{operand_length};
+ghost use Rattle.sour_raw.specs.declared.raw.RawSimple.{RawSimple};
+ghost use Rattle.sour_raw.specs.Expression.{SpellsSimple};
+ghost use Rattle.sour_raw.specs.Operand.{operand_length};
 ghost use Rattle.sour_reader.specs.Parts.{SplitsSo};
 
 use crate::kind::is_symbol;
 use crate::label::only_name;
 use crate::literal::literal_of;
-use crate::raw::RawSimple;
+use sour_raw::RawSimple;
 use sour_tokens::{Symbol, Token};
 use std::alloc::{AllocError, Global};
 

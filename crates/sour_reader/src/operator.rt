@@ -4,7 +4,7 @@ ghost use Rattle.std.specs.Prelude.{◌≡◌, ◌↔◌};
 ghost use Rattle.sour_tokens.specs.Symbol.{symbol_spelling};
 ghost use Rattle.sour_tokens.specs.Token.{spelling, IsOfItsKind};
 ghost use Rattle.sour_syntax.specs.declared.expression.Op.{Op};
-ghost use Rattle.sour_reader.specs.Operator.{op_spelling};
+ghost use Rattle.sour_raw.specs.Operator.{op_spelling};
 
 use sour_syntax::Op;
 use sour_tokens::{Symbol, Token};

@@ -4,15 +4,15 @@ ghost use Rattle.std.specs.Prelude.{◌≡◌, ◌↔◌, ◌∷◌, ◌++◌, [
 ghost use Rattle.std.specs.List.{AllByRecursion};
 ghost use Rattle.sour_tokens.specs.Token.{spelling, IsOfItsKind};
 ghost use Rattle.sour_syntax.specs.declared.plan.Start.{Start};
-ghost use Rattle.sour_reader.specs.declared.raw.RawPass.{RawPass};
-ghost use Rattle.sour_reader.specs.Plan.{start_spelling, SpellsPass, SpellsPasses};
+ghost use Rattle.sour_raw.specs.declared.raw.RawPass.{RawPass};
+ghost use Rattle.sour_raw.specs.Plan.{start_spelling, SpellsPass, SpellsPasses};
 ghost use Rattle.sour_reader.specs.Separators.{SpellsSomePasses};
 
 use crate::kind::is_word;
 use crate::path::{anchor_of, first_anchor, path_of};
 use crate::predicate::point_of;
-use crate::raw::RawPass;
 use crate::separator::symbol_place;
+use sour_raw::RawPass;
 use sour_syntax::{List, Start};
 use sour_tokens::{Symbol, Token};
 use std::alloc::{AllocError, Global};

@@ -4,7 +4,7 @@ ghost use Rattle.std.specs.Prelude.{◌≡◌, ◌↔◌, ◌<◌, ◌∷◌, �
 ghost use Rattle.std.specs.Option.{option_copied};
 ghost use Rattle.std.specs.List.{AllByRecursion};
 ghost use Rattle.sour_tokens.specs.Token.{spelling, IsOfItsKind};
-ghost use Rattle.sour_reader.specs.Plan.{IsPart, AreParts, SpellsPath, SpellsAnchor};
+ghost use Rattle.sour_raw.specs.Plan.{IsPart, AreParts, SpellsPath, SpellsAnchor};
 ghost use Rattle.sour_reader.specs.Separators.{EndsPath, BeginsPath, BeginsAnchor};
 
 use crate::bracket::behind_symbol;

@@ -3,12 +3,12 @@
 ghost use Rattle.std.specs.Prelude.{◌≡◌, ◌↔◌, ◌∷◌, [], ℕ, List, Some, map, codes, IfOk, IfSome, IfNone, length};
 ghost use Rattle.std.specs.List.{AllByRecursion};
 ghost use Rattle.sour_tokens.specs.Token.{spelling, IsOfItsKind};
-ghost use Rattle.sour_reader.specs.declared.raw.RawPlace.{RawPlace};
-ghost use Rattle.sour_reader.specs.Exit.{SpellsPlace};
+ghost use Rattle.sour_raw.specs.declared.raw.RawPlace.{RawPlace};
+ghost use Rattle.sour_raw.specs.Exit.{SpellsPlace};
 
 use crate::kind::is_symbol;
 use crate::label::{label_of, name_of};
-use crate::raw::RawPlace;
+use sour_raw::RawPlace;
 use sour_tokens::{Symbol, Token};
 use std::alloc::{AllocError, Global};
 

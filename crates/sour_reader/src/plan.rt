@@ -4,9 +4,9 @@ ghost use Rattle.std.specs.Prelude.{◌≡◌, ◌↔◌, ◌∷◌, ℕ, List a
 ghost use Rattle.std.specs.List.{AllByRecursion};
 ghost use Rattle.sour_tokens.specs.Token.{spelling, IsOfItsKind};
 ghost use Rattle.sour_syntax.specs.declared.plan.Start.{Start};
-ghost use Rattle.sour_reader.specs.declared.raw.RawPlanJob.{RawPlanJob};
+ghost use Rattle.sour_raw.specs.declared.raw.RawPlanJob.{RawPlanJob};
 ghost use Rattle.sour_syntax.specs.Name.{IsName};
-ghost use Rattle.sour_reader.specs.Plan.{start_spelling, SpellsPlanJob};
+ghost use Rattle.sour_raw.specs.Plan.{start_spelling, SpellsPlanJob};
 ghost use Rattle.sour_reader.specs.Ahead.{ReadsAs, ReadsAsNone};
 ghost use Rattle.sour_reader.specs.Front.{IsPlanJob, HasEachJob, HasPlan};
 
@@ -17,7 +17,7 @@ use crate::heading::{are_behind_plan, is_plan_heading};
 use crate::kind::is_word;
 use crate::name::token_name;
 use crate::pass::{passes_of, start_of};
-use crate::raw::RawPlanJob;
+use sour_raw::RawPlanJob;
 use sour_syntax::{Label, List, Start};
 use sour_tokens::{Symbol, Token};
 use std::alloc::{AllocError, Global};

@@ -3,14 +3,14 @@
 ghost use Rattle.std.specs.Prelude.{◌≡◌, ◌↔◌, ℕ, List, Some, map, IfOk, IfSome, IfNone};
 ghost use Rattle.std.specs.List.{AllByRecursion};
 ghost use Rattle.sour_tokens.specs.Token.{spelling, IsOfItsKind};
-ghost use Rattle.sour_reader.specs.declared.raw.RawPlanSimple.{RawPlanSimple};
-ghost use Rattle.sour_reader.specs.declared.raw.RawPredicate.{RawPredicate};
-ghost use Rattle.sour_reader.specs.Plan.{SpellsSide, SpellsPredicate, SpellsPoint};
+ghost use Rattle.sour_raw.specs.declared.raw.RawPlanSimple.{RawPlanSimple};
+ghost use Rattle.sour_raw.specs.declared.raw.RawPredicate.{RawPredicate};
+ghost use Rattle.sour_raw.specs.Plan.{SpellsSide, SpellsPredicate, SpellsPoint};
 
 use crate::literal::literal_of;
 use crate::path::{first_anchor, path_of};
-use crate::raw::{RawPlanSimple, RawPredicate};
 use crate::separator::symbol_place;
+use sour_raw::{RawPlanSimple, RawPredicate};
 use sour_syntax::Label;
 use sour_tokens::{Symbol, Token};
 use std::alloc::{AllocError, Global};

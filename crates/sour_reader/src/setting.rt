@@ -4,13 +4,13 @@ ghost use Rattle.std.specs.Prelude.{◌≡◌, ◌↔◌, ◌∷◌, ℕ, List, 
 ghost use Rattle.std.specs.List.{AllByRecursion};
 ghost use Rattle.sour_tokens.specs.Symbol.{symbol_spelling};
 ghost use Rattle.sour_tokens.specs.Token.{spelling, IsOfItsKind};
-ghost use Rattle.sour_reader.specs.declared.raw.RawExpr.{RawExpr};
+ghost use Rattle.sour_raw.specs.declared.raw.RawExpr.{RawExpr};
 ghost use Rattle.sour_reader.specs.Parts.{SpellsSetting};
 
 use crate::expression::expression_of;
 use crate::kind::is_symbol;
 use crate::label::name_of;
-use crate::raw::RawExpr;
+use sour_raw::RawExpr;
 use sour_syntax::Label;
 use sour_tokens::{Symbol, Token};
 use std::alloc::{AllocError, Global};

@@ -2,7 +2,7 @@
 
 ghost use Rattle.std.specs.Prelude.{◌≡◌, ◌≤◌, length, IfOk, OnOk, IsErrOf};
 ghost use Rattle.sour_reader.specs.Ahead.{ReadsAs, ReadsAsNone};
-ghost use Rattle.sour_reader.specs.Job.{function_end};
+ghost use Rattle.sour_raw.specs.Job.{function_end};
 ghost use Rattle.sour_reader.specs.Front.{HasBody, HasVersion, HasVersions};
 
 use crate::ahead::LinesAhead;
@@ -11,7 +11,7 @@ use crate::heading::{begins_version_or_end, is_function_end, version_name};
 use crate::limits::MAX_VARIABLES;
 use crate::line::line_of;
 use crate::mentions::{add_instr, parameter_names};
-use crate::raw::{RawLine, RawVersion};
+use sour_raw::{RawLine, RawVersion};
 use sour_syntax::{Label, List};
 use std::alloc::Global;
 

@@ -6,9 +6,9 @@ use Rattle.sour_syntax.specs.declared.program.Function.{Function}
 use Rattle.sour_syntax.specs.declared.program.Version.{Version}
 use Rattle.sour_syntax.specs.Program.{IsFunction, AreFunctions}
 use Rattle.sour_syntax.specs.Targets.{HasExits}
-use Rattle.sour_reader.specs.declared.raw.RawFunction.{RawFunction}
-use Rattle.sour_reader.specs.Job.{SpellsFunction, SpellsFunctions}
-use Rattle.sour_reader.specs.Limits.{IsShortFunction}
+use Rattle.sour_raw.specs.declared.raw.RawFunction.{RawFunction}
+use Rattle.sour_raw.specs.Job.{SpellsFunction, SpellsFunctions}
+use Rattle.sour_raw.specs.Limits.{IsShortFunction}
 use Rattle.sour_scope.specs.declared.outline.FunctionNames.{FunctionNames}
 use Rattle.sour_scope.specs.Numbered.{version_of, function_of, functions_of}
 use Rattle.sour_scope.specs.Checked.{IsAcceptedFunction, AreAccepted, HaveExits, function_names}

@@ -2,7 +2,7 @@
 use Rattle.std.proofs.Common.{◌≡◌, ◌+◌, ℕ, suc, List, [], ◌∷◌, ◌++◌, length, refl, sym, ap, ◌∙◌, arith}
 use Rattle.sour_syntax.specs.declared.instruction.Instr.{Instr}
 use Rattle.sour_syntax.specs.declared.instruction.Line.{Line}
-use Rattle.sour_reader.specs.declared.raw.RawLine.{RawLine}
+use Rattle.sour_raw.specs.declared.raw.RawLine.{RawLine}
 use Rattle.sour_scope.specs.declared.outline.FunctionNames.{FunctionNames}
 use Rattle.sour_scope.specs.Numbered.{label_of, instr_of, lines_of}
 

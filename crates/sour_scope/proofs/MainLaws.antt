@@ -12,11 +12,11 @@ use Rattle.sour_syntax.specs.Plan.{IsKnownJob}
 use Rattle.sour_syntax.specs.declared.program.Function.{Function}
 use Rattle.sour_syntax.specs.Literals.{IsLiteral}
 use Rattle.sour_syntax.specs.Program.{ProgramView, NamesDiffer, AreFunctions, HasMain, IsProgram}
-use Rattle.sour_reader.specs.declared.raw.RawVersion.{RawVersion}
-use Rattle.sour_reader.specs.declared.raw.RawFunction.{RawFunction}
-use Rattle.sour_reader.specs.declared.raw.RawJob.{RawJob}
-use Rattle.sour_reader.specs.Job.{SpellsFunctions}
-use Rattle.sour_reader.specs.Limits.{IsShortFunction}
+use Rattle.sour_raw.specs.declared.raw.RawVersion.{RawVersion}
+use Rattle.sour_raw.specs.declared.raw.RawFunction.{RawFunction}
+use Rattle.sour_raw.specs.declared.raw.RawJob.{RawJob}
+use Rattle.sour_raw.specs.Job.{SpellsFunctions}
+use Rattle.sour_raw.specs.Limits.{IsShortFunction}
 use Rattle.sour_scope.specs.declared.outline.FunctionNames.{FunctionNames}
 use Rattle.sour_scope.specs.Outline.{names_in, outline}
 use Rattle.sour_scope.specs.Numbered.{version_of, function_of, functions_of, plan_of, inputs_of}

@@ -5,16 +5,16 @@ use Rattle.sour_syntax.specs.declared.expression.Expr.{Expr}
 use Rattle.sour_syntax.specs.declared.literal.VarId.{VarId}
 use Rattle.sour_syntax.specs.Exits.{bound_values, extras_values, exit_values}
 use Rattle.sour_syntax.specs.Scopes.{simple_variables, variables_of_expr, variables_of_each, mentioned}
-use Rattle.sour_reader.specs.declared.raw.RawSimple.{RawSimple}
-use Rattle.sour_reader.specs.declared.raw.RawSimple.TheVariants as simple
-use Rattle.sour_reader.specs.declared.raw.RawExpr.{RawExpr}
-use Rattle.sour_reader.specs.declared.raw.RawExpr.TheVariants as expr
-use Rattle.sour_reader.specs.declared.raw.RawBind.{RawBind}
-use Rattle.sour_reader.specs.declared.raw.RawExtra.{RawExtra}
-use Rattle.sour_reader.specs.declared.raw.RawExit.{RawExit}
-use Rattle.sour_reader.specs.declared.raw.RawInstr.{RawInstr}
-use Rattle.sour_reader.specs.declared.raw.RawInstr.TheVariants.{Var, Drop, Assign, ArrayLength, ArrayList, Store, Print, Read, Branch, Goto, Call, Return, Stop, Assume}
-use Rattle.sour_reader.specs.Mentions.{simple_names, expr_names, each_names, all_names, bind_names, map_names, extra_names, exit_names, instr_names}
+use Rattle.sour_raw.specs.declared.raw.RawSimple.{RawSimple}
+use Rattle.sour_raw.specs.declared.raw.RawSimple.TheVariants as simple
+use Rattle.sour_raw.specs.declared.raw.RawExpr.{RawExpr}
+use Rattle.sour_raw.specs.declared.raw.RawExpr.TheVariants as expr
+use Rattle.sour_raw.specs.declared.raw.RawBind.{RawBind}
+use Rattle.sour_raw.specs.declared.raw.RawExtra.{RawExtra}
+use Rattle.sour_raw.specs.declared.raw.RawExit.{RawExit}
+use Rattle.sour_raw.specs.declared.raw.RawInstr.{RawInstr}
+use Rattle.sour_raw.specs.declared.raw.RawInstr.TheVariants.{Var, Drop, Assign, ArrayLength, ArrayList, Store, Print, Read, Branch, Goto, Call, Return, Stop, Assume}
+use Rattle.sour_raw.specs.Mentions.{simple_names, expr_names, each_names, all_names, bind_names, map_names, extra_names, exit_names, instr_names}
 use Rattle.sour_scope.specs.declared.outline.FunctionNames.{FunctionNames}
 use Rattle.sour_scope.specs.Outline.{own_names, place_variables}
 use Rattle.sour_scope.specs.Numbered.{number_of, simple_of, expr_of, map_of, extra_of, exit_of, instr_of}

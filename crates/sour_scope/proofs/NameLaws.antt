@@ -15,7 +15,8 @@ use Rattle.std.proofs.lemmas.Map.Keys.{any_passes_from_place}
 use Rattle.sour_syntax.specs.declared.literal.VarId.{VarId}
 use Rattle.sour_syntax.specs.Names.{Numbers}
 use Rattle.sour_syntax.specs.Program.{NamesDiffer}
-use Rattle.sour_reader.specs.Mentions.{with_name, with_names}
+use Rattle.sour_raw.specs.Mentions.{with_name}
+use Rattle.sour_raw.proofs.MentionLaws.{none_at}
 use Rattle.sour_syntax.proofs.Everywhere.{AllByRecursion-found, all_push, slice_get-last}
 use Rattle.sour_syntax.proofs.LabelPlaces.{tested}
 
@@ -36,12 +37,6 @@ first_place (first ∷ names) more name (suc place) differ at =
     let here : suc place ≡ 1 + position_or_len (bytes_eq name) (names ++ more) = omega arith in
     here ∙ ap (λ test. cond (not test) (1 + position_or_len (bytes_eq name) (names ++ more)) 0) (sym (bytes_eq-other name first other))
 
--- no name of these is the same
-pub none_same : (names : List (List ℕ)) (name : List ℕ) → AllByRecursion (λ other. other ≢ name) names → list_any (bytes_eq name) names ≡ false
-none_same [] name absent = refl
-none_same (first ∷ names) name absent =
-    ap (λ test. test || list_any (bytes_eq name) names) (bytes_eq-other name first (λ same. absent.0 (sym same))) ∙ none_same names name absent.1
-
 -- names that differ, and behind them one that is none of them
 pub NamesDiffer-push : (names : List (List ℕ)) (name : List ℕ) → NamesDiffer names → AllByRecursion (λ other. other ≢ name) names → NamesDiffer (names ++ name ∷ [])
 NamesDiffer-push [] name differ absent = (tt, tt)
@@ -60,7 +55,7 @@ numbered old new name x differ (inl (same, at)) =
     )
 numbered old new name x differ (inr (absent, put, place)) =
     let P : List (List ℕ) → Type 0 = NamesDiffer in (
-      put ∙ ap (λ test. cond test old (old ++ name ∷ [])) (sym (none_same old name absent)),
+      put ∙ ap (λ test. cond test old (old ++ name ∷ [])) (sym (none_at old name absent)),
       subst P (sym put) (NamesDiffer-push old name differ absent),
       ap (λ names. slice_get names x.0) put ∙ ap (λ n. slice_get (old ++ name ∷ []) n) place ∙ slice_get-last old name,
     )
@@ -122,11 +117,6 @@ pub new_at_count : (old new : List (List ℕ)) (name : List ℕ) (x : VarId) (co
 new_at_count old new name x count is numbers =
     subst (λ n. (IsTrue (nat_eq x.0 n) ↔ AllByRecursion (λ other. other ≢ name) old) × OnTrue (nat_eq x.0 n) (new ≡ old ++ name ∷ [])) (sym is)
     (tested_new old new name x _ refl numbers)
-
--- some mentions, and others behind them
-pub with_names-append : (names first next : List (List ℕ)) → with_names (with_names names first) next ≡ with_names names (first ++ next)
-with_names-append names [] next = refl
-with_names-append names (name ∷ first) next = with_names-append (with_name names name) first next
 
 -- where no two things have the same name, none before one has its name
 pub named_before : {N : Type 0} (named : N → List ℕ) (things : List N) (place : ℕ) (thing : N) → NamesDiffer (map named things) → slice_get things place ≡ Some thing

@@ -6,8 +6,8 @@ use Rattle.std.proofs.lemmas.Slice.Eq.{bytes_eq-Decides}
 use Rattle.sour_syntax.specs.declared.literal.VarId.{VarId}
 use Rattle.sour_syntax.specs.Program.{NamesDiffer, AreNumberedInOrder, mentioned_in}
 use Rattle.sour_syntax.specs.Scopes.{mentioned}
-use Rattle.sour_reader.specs.declared.raw.RawLine.{RawLine}
-use Rattle.sour_reader.specs.Mentions.{with_name, with_names, with_lines, instr_names, variables_of}
+use Rattle.sour_raw.specs.declared.raw.RawLine.{RawLine}
+use Rattle.sour_raw.specs.Mentions.{with_name, with_names, with_lines, instr_names, variables_of}
 use Rattle.sour_scope.specs.declared.outline.FunctionNames.{FunctionNames}
 use Rattle.sour_scope.specs.Numbered.{number_of, instr_of, lines_of}
 use Rattle.sour_scope.proofs.MentionLaws.{mentioned-names}

@@ -5,8 +5,8 @@ use Rattle.std.specs.Str.{bytes_eq}
 use Rattle.std.proofs.lemmas.Slice.Eq.{bytes_eq-Decides}
 use Rattle.std.proofs.lemmas.List.{length-map}
 use Rattle.std.proofs.lemmas.Simd.{map-map}
-use Rattle.sour_reader.specs.declared.raw.RawFunction.{RawFunction}
-use Rattle.sour_reader.specs.Limits.{IsShortFunction}
+use Rattle.sour_raw.specs.declared.raw.RawFunction.{RawFunction}
+use Rattle.sour_raw.specs.Limits.{IsShortFunction}
 use Rattle.sour_scope.specs.declared.outline.VersionNames.{VersionNames}
 use Rattle.sour_scope.specs.declared.outline.FunctionNames.{FunctionNames}
 use Rattle.sour_scope.specs.Outline.{version_names, names_in, outline, own_names, own_version_names, version_number, HasFewVersions}

@@ -5,9 +5,10 @@ use Rattle.std.specs.Str.{bytes_eq}
 use Rattle.sour_syntax.specs.Program.{NamesDiffer}
 use Rattle.sour_syntax.proofs.Everywhere.{AllByRecursion-parts}
 use Rattle.sour_syntax.proofs.NameLemmas.{differs}
-use Rattle.sour_reader.specs.declared.raw.RawLine.{RawLine}
-use Rattle.sour_reader.specs.Mentions.{with_name, with_names, with_lines, instr_names, variables_of}
-use Rattle.sour_scope.proofs.NameLaws.{NamesDiffer-push, none_same}
+use Rattle.sour_raw.specs.declared.raw.RawLine.{RawLine}
+use Rattle.sour_raw.specs.Mentions.{with_name, with_names, with_lines, instr_names, variables_of}
+use Rattle.sour_raw.proofs.MentionLaws.{none_at}
+use Rattle.sour_scope.proofs.NameLaws.{NamesDiffer-push}
 
 -- the first isn't the name, nor is one behind it
 absent_first : (name first : List ℕ) (names : List (List ℕ)) (test : Bool) → bytes_eq name first ≡ test
@@ -54,7 +55,7 @@ pub with_names-all_new : (names others : List (List ℕ)) → NamesDiffer (names
 with_names-all_new names [] differ = sym (append-nil names)
 with_names-all_new names (name ∷ others) differ =
     let new : with_name names name ≡ names ++ name ∷ [] =
-    ap (λ test. cond test names (names ++ name ∷ [])) (none_same names name (behind_absent names name others differ)) in
+    ap (λ test. cond test names (names ++ name ∷ [])) (none_at names name (behind_absent names name others differ)) in
     let together : (names ++ name ∷ []) ++ others ≡ names ++ name ∷ others = append_assoc names (name ∷ []) others in
     ap (λ zs. with_names zs others) new ∙ with_names-all_new (names ++ name ∷ []) others (subst NamesDiffer (sym together) differ) ∙ together
 

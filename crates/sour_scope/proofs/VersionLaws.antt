@@ -13,14 +13,14 @@ use Rattle.sour_syntax.specs.Limits.{IsShortInstr}
 use Rattle.sour_syntax.specs.Name.{IsName}
 use Rattle.sour_syntax.specs.Program.{NamesDiffer, HasLiterals, HasLabels, IsVersion}
 use Rattle.sour_syntax.specs.Targets.{HasExits}
-use Rattle.sour_reader.specs.declared.raw.RawInstr.{RawInstr}
-use Rattle.sour_reader.specs.declared.raw.RawInstr.TheVariants.{Var, Drop, Assign, ArrayLength, ArrayList, Store, Print, Read, Branch, Goto, Call, Return, Stop, Assume}
-use Rattle.sour_reader.specs.declared.raw.RawLine.{RawLine}
-use Rattle.sour_reader.specs.declared.raw.RawVersion.{RawVersion}
-use Rattle.sour_reader.specs.Instruction.{SpellsLabelled}
-use Rattle.sour_reader.specs.Job.{SpellsLines, SpellsVersions}
-use Rattle.sour_reader.specs.Limits.{IsShortVersion, HasShortInstrs, IsShortInstr as IsShortRaw}
-use Rattle.sour_reader.specs.Mentions.{variables_of}
+use Rattle.sour_raw.specs.declared.raw.RawInstr.{RawInstr}
+use Rattle.sour_raw.specs.declared.raw.RawInstr.TheVariants.{Var, Drop, Assign, ArrayLength, ArrayList, Store, Print, Read, Branch, Goto, Call, Return, Stop, Assume}
+use Rattle.sour_raw.specs.declared.raw.RawLine.{RawLine}
+use Rattle.sour_raw.specs.declared.raw.RawVersion.{RawVersion}
+use Rattle.sour_raw.specs.Instruction.{SpellsLabelled}
+use Rattle.sour_raw.specs.Job.{SpellsLines, SpellsVersions}
+use Rattle.sour_raw.specs.Limits.{IsShortVersion, HasShortInstrs, IsShortInstr as IsShortRaw}
+use Rattle.sour_raw.specs.Mentions.{variables_of}
 use Rattle.sour_scope.specs.declared.outline.FunctionNames.{FunctionNames}
 use Rattle.sour_scope.specs.Outline.{own_names}
 use Rattle.sour_scope.specs.Numbered.{expr_of, extra_of, instr_of, label_of, lines_of, body_of, version_of}

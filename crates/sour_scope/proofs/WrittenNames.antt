@@ -4,21 +4,21 @@ use Rattle.std.specs.List.{AllByRecursion, list_any}
 use Rattle.std.specs.Str.{bytes_eq}
 use Rattle.sour_syntax.specs.Name.{IsName}
 use Rattle.sour_syntax.proofs.Everywhere.{AllByRecursion-append}
-use Rattle.sour_reader.specs.declared.raw.RawSimple.{RawSimple}
-use Rattle.sour_reader.specs.declared.raw.RawSimple.TheVariants as simple
-use Rattle.sour_reader.specs.declared.raw.RawExpr.{RawExpr}
-use Rattle.sour_reader.specs.declared.raw.RawExpr.TheVariants as expr
-use Rattle.sour_reader.specs.declared.raw.RawBind.{RawBind}
-use Rattle.sour_reader.specs.declared.raw.RawExtra.{RawExtra}
-use Rattle.sour_reader.specs.declared.raw.RawExit.{RawExit}
-use Rattle.sour_reader.specs.declared.raw.RawInstr.{RawInstr}
-use Rattle.sour_reader.specs.declared.raw.RawInstr.TheVariants.{Var, Drop, Assign, ArrayLength, ArrayList, Store, Print, Read, Branch, Goto, Call, Return, Stop, Assume}
-use Rattle.sour_reader.specs.declared.raw.RawLine.{RawLine}
-use Rattle.sour_reader.specs.Exit.{SpellsExit, SpellsExtras, SpellsBinds}
-use Rattle.sour_reader.specs.Expression.{SpellsSimple, SpellsExpr, SpellsEach}
-use Rattle.sour_reader.specs.Instruction.{SpellsInstr, SpellsLabelled}
-use Rattle.sour_reader.specs.Job.{SpellsLines}
-use Rattle.sour_reader.specs.Mentions.{simple_names, expr_names, each_names, all_names, bind_names, map_names, extra_names, exit_names, instr_names, with_name, with_names, with_lines, variables_of}
+use Rattle.sour_raw.specs.declared.raw.RawSimple.{RawSimple}
+use Rattle.sour_raw.specs.declared.raw.RawSimple.TheVariants as simple
+use Rattle.sour_raw.specs.declared.raw.RawExpr.{RawExpr}
+use Rattle.sour_raw.specs.declared.raw.RawExpr.TheVariants as expr
+use Rattle.sour_raw.specs.declared.raw.RawBind.{RawBind}
+use Rattle.sour_raw.specs.declared.raw.RawExtra.{RawExtra}
+use Rattle.sour_raw.specs.declared.raw.RawExit.{RawExit}
+use Rattle.sour_raw.specs.declared.raw.RawInstr.{RawInstr}
+use Rattle.sour_raw.specs.declared.raw.RawInstr.TheVariants.{Var, Drop, Assign, ArrayLength, ArrayList, Store, Print, Read, Branch, Goto, Call, Return, Stop, Assume}
+use Rattle.sour_raw.specs.declared.raw.RawLine.{RawLine}
+use Rattle.sour_raw.specs.Exit.{SpellsExit, SpellsExtras, SpellsBinds}
+use Rattle.sour_raw.specs.Expression.{SpellsSimple, SpellsExpr, SpellsEach}
+use Rattle.sour_raw.specs.Instruction.{SpellsInstr, SpellsLabelled}
+use Rattle.sour_raw.specs.Job.{SpellsLines}
+use Rattle.sour_raw.specs.Mentions.{simple_names, expr_names, each_names, all_names, bind_names, map_names, extra_names, exit_names, instr_names, with_name, with_names, with_lines, variables_of}
 
 -- what holds of the names in an operand, where it is spelled
 names_of_simple : (a : RawSimple) (tokens : List (List ℕ)) → SpellsSimple a tokens → AllByRecursion IsName (simple_names a)

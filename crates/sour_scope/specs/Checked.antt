@@ -10,9 +10,9 @@ use Rattle.sour_syntax.specs.Literals.{IsLiteral}
 use Rattle.sour_syntax.specs.Program.{ProgramView, NamesDiffer, HasLiterals}
 use Rattle.sour_syntax.specs.Plan.{IsKnownJob}
 use Rattle.sour_syntax.specs.Targets.{HasExits}
-use Rattle.sour_reader.specs.declared.raw.RawVersion.{RawVersion}
-use Rattle.sour_reader.specs.declared.raw.RawFunction.{RawFunction}
-use Rattle.sour_reader.specs.declared.raw.RawJob.{RawJob}
+use Rattle.sour_raw.specs.declared.raw.RawVersion.{RawVersion}
+use Rattle.sour_raw.specs.declared.raw.RawFunction.{RawFunction}
+use Rattle.sour_raw.specs.declared.raw.RawJob.{RawJob}
 use Rattle.sour_scope.specs.declared.outline.FunctionNames.{FunctionNames}
 use Rattle.sour_scope.specs.Outline.{outline}
 use Rattle.sour_scope.specs.Numbered.{body_of, functions_of, plan_of, inputs_of}

@@ -27,29 +27,29 @@ use Rattle.sour_syntax.specs.declared.program.Version.{Version}
 use Rattle.sour_syntax.specs.declared.program.Function.{Function as Declared}
 use Rattle.sour_syntax.specs.BodyView.{BodyView}
 use Rattle.sour_syntax.specs.Labels.{automatic_label}
-use Rattle.sour_reader.specs.declared.raw.RawLiteral.{RawLiteral}
-use Rattle.sour_reader.specs.declared.raw.RawLiteral.TheVariants.{Number, Truth, Nil, Function}
-use Rattle.sour_reader.specs.declared.raw.RawSimple.{RawSimple}
-use Rattle.sour_reader.specs.declared.raw.RawSimple.TheVariants.{Lit, Name}
-use Rattle.sour_reader.specs.declared.raw.RawExpr.{RawExpr}
-use Rattle.sour_reader.specs.declared.raw.RawExpr.TheVariants.{Plain, Cell, Length, Not, Binary}
-use Rattle.sour_reader.specs.declared.raw.RawPlace.{RawPlace}
-use Rattle.sour_reader.specs.declared.raw.RawBind.{RawBind}
-use Rattle.sour_reader.specs.declared.raw.RawExtra.{RawExtra}
-use Rattle.sour_reader.specs.declared.raw.RawExit.{RawExit}
-use Rattle.sour_reader.specs.declared.raw.RawInstr.{RawInstr}
-use Rattle.sour_reader.specs.declared.raw.RawInstr.TheVariants.{Var, Drop, Assign, ArrayLength, ArrayList, Store, Print, Read, Branch, Goto, Call, Return, Stop, Assume}
-use Rattle.sour_reader.specs.declared.raw.RawLine.{RawLine}
-use Rattle.sour_reader.specs.declared.raw.RawVersion.{RawVersion}
-use Rattle.sour_reader.specs.declared.raw.RawFunction.{RawFunction}
-use Rattle.sour_reader.specs.declared.raw.RawPlanSimple.{RawPlanSimple}
-use Rattle.sour_reader.specs.declared.raw.RawPlanSimple.TheVariants as raw_side
-use Rattle.sour_reader.specs.declared.raw.RawPredicate.{RawPredicate}
-use Rattle.sour_reader.specs.declared.raw.RawPass.{RawPass}
-use Rattle.sour_reader.specs.declared.raw.RawPass.TheVariants.{Inject, Constprop, Unreachable, Inline, Move, Hoist, Compose, Prune}
-use Rattle.sour_reader.specs.declared.raw.RawPlanJob.{RawPlanJob}
-use Rattle.sour_reader.specs.declared.raw.RawInput.{RawInput}
-use Rattle.sour_reader.specs.Mentions.{variables_of}
+use Rattle.sour_raw.specs.declared.raw.RawLiteral.{RawLiteral}
+use Rattle.sour_raw.specs.declared.raw.RawLiteral.TheVariants.{Number, Truth, Nil, Function}
+use Rattle.sour_raw.specs.declared.raw.RawSimple.{RawSimple}
+use Rattle.sour_raw.specs.declared.raw.RawSimple.TheVariants.{Lit, Name}
+use Rattle.sour_raw.specs.declared.raw.RawExpr.{RawExpr}
+use Rattle.sour_raw.specs.declared.raw.RawExpr.TheVariants.{Plain, Cell, Length, Not, Binary}
+use Rattle.sour_raw.specs.declared.raw.RawPlace.{RawPlace}
+use Rattle.sour_raw.specs.declared.raw.RawBind.{RawBind}
+use Rattle.sour_raw.specs.declared.raw.RawExtra.{RawExtra}
+use Rattle.sour_raw.specs.declared.raw.RawExit.{RawExit}
+use Rattle.sour_raw.specs.declared.raw.RawInstr.{RawInstr}
+use Rattle.sour_raw.specs.declared.raw.RawInstr.TheVariants.{Var, Drop, Assign, ArrayLength, ArrayList, Store, Print, Read, Branch, Goto, Call, Return, Stop, Assume}
+use Rattle.sour_raw.specs.declared.raw.RawLine.{RawLine}
+use Rattle.sour_raw.specs.declared.raw.RawVersion.{RawVersion}
+use Rattle.sour_raw.specs.declared.raw.RawFunction.{RawFunction}
+use Rattle.sour_raw.specs.declared.raw.RawPlanSimple.{RawPlanSimple}
+use Rattle.sour_raw.specs.declared.raw.RawPlanSimple.TheVariants as raw_side
+use Rattle.sour_raw.specs.declared.raw.RawPredicate.{RawPredicate}
+use Rattle.sour_raw.specs.declared.raw.RawPass.{RawPass}
+use Rattle.sour_raw.specs.declared.raw.RawPass.TheVariants.{Inject, Constprop, Unreachable, Inline, Move, Hoist, Compose, Prune}
+use Rattle.sour_raw.specs.declared.raw.RawPlanJob.{RawPlanJob}
+use Rattle.sour_raw.specs.declared.raw.RawInput.{RawInput}
+use Rattle.sour_raw.specs.Mentions.{variables_of}
 use Rattle.sour_scope.specs.declared.outline.FunctionNames.{FunctionNames}
 use Rattle.sour_scope.specs.Outline.{own_names, function_number, place_function, place_version, place_variables}
 

@@ -3,10 +3,10 @@ use Rattle.std.specs.Prelude.{◌≤◌, ℕ, List, [], Option, None, Some, leng
 use Rattle.std.specs.List.{position_or_len}
 use Rattle.std.specs.Str.{bytes_eq}
 use Rattle.sour_syntax.specs.declared.literal.FunId.{FunId}
-use Rattle.sour_reader.specs.declared.raw.RawPlace.{RawPlace}
-use Rattle.sour_reader.specs.declared.raw.RawVersion.{RawVersion}
-use Rattle.sour_reader.specs.declared.raw.RawFunction.{RawFunction}
-use Rattle.sour_reader.specs.Mentions.{variables_of}
+use Rattle.sour_raw.specs.declared.raw.RawPlace.{RawPlace}
+use Rattle.sour_raw.specs.declared.raw.RawVersion.{RawVersion}
+use Rattle.sour_raw.specs.declared.raw.RawFunction.{RawFunction}
+use Rattle.sour_raw.specs.Mentions.{variables_of}
 use Rattle.sour_scope.specs.declared.outline.VersionNames.{VersionNames}
 use Rattle.sour_scope.specs.declared.outline.FunctionNames.{FunctionNames}
 

@@ -8,7 +8,7 @@ ghost use Rattle.sour_scope.specs.Numbered.{bind_of, map_of, extra_of, exit_of};
 use crate::expressions::expr_of;
 use crate::names::{DistinctNames, copy_of};
 use crate::outline::Outline;
-use sour_reader::{RawBind, RawExit, RawExtra, RawPlace};
+use sour_raw::{RawBind, RawExit, RawExtra, RawPlace};
 use sour_syntax::{Bind, Code, Exit, Extra, FunId, List, Target};
 use std::alloc::{AllocError, Global};
 

@@ -5,7 +5,7 @@ ghost use Rattle.sour_scope.specs.Numbered.{expr_of};
 
 use crate::expressions::expr_of;
 use crate::names::DistinctNames;
-use sour_reader::RawExpr;
+use sour_raw::RawExpr;
 use sour_syntax::{Expr, List};
 use std::alloc::{AllocError, Global};
 

@@ -4,7 +4,7 @@ ghost use Rattle.std.specs.Prelude.{◌≡◌};
 ghost use Rattle.sour_scope.specs.Numbered.{literal_of, simple_of, expr_of};
 
 use crate::names::DistinctNames;
-use sour_reader::{RawExpr, RawLiteral, RawSimple};
+use sour_raw::{RawExpr, RawLiteral, RawSimple};
 use sour_syntax::{Expr, Literal, Simple};
 
 /// The value that is written, where the functions have these names.

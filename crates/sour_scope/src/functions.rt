@@ -3,14 +3,14 @@
 ghost use Rattle.std.specs.Prelude.{◌≡◌, ◌≤◌, length, IfOk, IfSome, IfNone, OnSome};
 ghost use Rattle.std.specs.List.{AllByRecursion};
 ghost use Rattle.sour_syntax.specs.Program.{NamesDiffer};
-ghost use Rattle.sour_reader.specs.Limits.{IsShortFunction};
+ghost use Rattle.sour_raw.specs.Limits.{IsShortFunction};
 ghost use Rattle.sour_scope.specs.Numbered.{function_of, functions_of};
 ghost use Rattle.sour_scope.specs.Checked.{IsAcceptedFunction, AreAccepted, function_names};
 
 use crate::names::{DistinctNames, are_distinct, copy_of};
 use crate::outline::Outline;
 use crate::versions::versions_of;
-use sour_reader::RawFunction;
+use sour_raw::RawFunction;
 use sour_syntax::{FunId, Function, List};
 use std::alloc::{AllocError, Global};
 

@@ -5,7 +5,7 @@ ghost use Rattle.sour_scope.specs.Numbered.{literal_of, inputs_of};
 
 use crate::expressions::literal_of;
 use crate::names::DistinctNames;
-use sour_reader::{RawInput, RawLiteral};
+use sour_raw::{RawInput, RawLiteral};
 use sour_syntax::{List, Literal};
 use std::alloc::{AllocError, Global};
 

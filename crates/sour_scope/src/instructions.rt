@@ -1,7 +1,7 @@
 //! Instructions, with numbers in place of names.
 
 ghost use Rattle.std.specs.Prelude.{◌≡◌, IfOk};
-ghost use Rattle.sour_reader.specs.declared.raw.RawInstr.TheVariants.{Call};
+ghost use Rattle.sour_raw.specs.declared.raw.RawInstr.TheVariants.{Call};
 ghost use Rattle.sour_scope.specs.Numbered.{instr_of};
 
 use crate::exit_numbers::exit_of;
@@ -9,7 +9,7 @@ use crate::expression_lists::each_of;
 use crate::expressions::{expr_of, simple_of};
 use crate::names::{DistinctNames, copy_of};
 use crate::outline::Outline;
-use sour_reader::{RawExpr, RawInstr, RawSimple};
+use sour_raw::{RawExpr, RawInstr, RawSimple};
 use sour_syntax::{Instr, Label, List};
 use std::alloc::{AllocError, Global};
 

@@ -7,7 +7,7 @@ ghost use Rattle.sour_syntax.specs.declared.plan.PlanJob.{PlanJob};
 ghost use Rattle.sour_syntax.specs.Literals.{IsLiteral};
 ghost use Rattle.sour_syntax.specs.Plan.{IsKnownJob};
 ghost use Rattle.sour_syntax.specs.Program.{ProgramView};
-ghost use Rattle.sour_reader.specs.Job.{Reads};
+ghost use Rattle.sour_raw.specs.Job.{Reads};
 ghost use Rattle.sour_scope.specs.Checked.{IsChecked};
 
 use crate::exits::exits_are_right;
@@ -19,7 +19,7 @@ use crate::main_function::main_of;
 use crate::naming::outline_of;
 use crate::plan::plan_of;
 use crate::plan_literals::plan_is_known;
-use sour_reader::RawJob;
+use sour_raw::RawJob;
 use sour_syntax::{Job, Program};
 use std::alloc::Global;
 use std::sync::Arc;

@@ -6,7 +6,7 @@ ghost use Rattle.sour_scope.specs.Numbered.{label_of, lines_of};
 use crate::instructions::instr_of;
 use crate::names::{DistinctNames, copy_of};
 use crate::outline::Outline;
-use sour_reader::RawLine;
+use sour_raw::RawLine;
 use sour_syntax::{Label, Line, List};
 use std::alloc::{AllocError, Global};
 

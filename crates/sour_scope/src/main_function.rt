@@ -3,7 +3,7 @@
 ghost use Rattle.std.specs.Prelude.{◌≡◌, ◌≤◌, ◌↔◌, ℕ, [], length, codes, IsTrue, IfSome, IfNone};
 ghost use Rattle.sour_scope.specs.Checked.{IsMain};
 
-use sour_reader::RawFunction;
+use sour_raw::RawFunction;
 use sour_syntax::FunId;
 
 /// Whether a function has the name `main` and no parameters.

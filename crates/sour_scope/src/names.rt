@@ -5,7 +5,7 @@ ghost use Rattle.std.specs.Bool.{OnTrue};
 ghost use Rattle.std.specs.List.{AllByRecursion, position_or_len};
 ghost use Rattle.std.specs.Str.{bytes_eq};
 ghost use Rattle.sour_syntax.specs.Program.{NamesDiffer};
-ghost use Rattle.sour_reader.specs.Mentions.{with_name};
+ghost use Rattle.sour_raw.specs.Mentions.{with_name};
 ghost use Rattle.sour_scope.specs.Outline.{function_number};
 ghost use Rattle.sour_scope.specs.Numbered.{number_of};
 

@@ -2,14 +2,14 @@
 
 ghost use Rattle.std.specs.Prelude.{◌≡◌, map, IfOk};
 ghost use Rattle.std.specs.List.{AllByRecursion};
-ghost use Rattle.sour_reader.specs.Limits.{IsShortFunction};
+ghost use Rattle.sour_raw.specs.Limits.{IsShortFunction};
 ghost use Rattle.sour_scope.specs.Outline.{version_names, names_in, outline};
 ghost use Rattle.sour_scope.specs.Checked.{function_names};
 
 use crate::names::{DistinctNames, copy_of};
 use crate::outline::{FunctionNames, Outline, VersionNames};
 use crate::variables::variables_of;
-use sour_reader::{RawFunction, RawVersion};
+use sour_raw::{RawFunction, RawVersion};
 use sour_syntax::{Label, List};
 use std::alloc::{AllocError, Global};
 

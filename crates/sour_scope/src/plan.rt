@@ -5,7 +5,7 @@ ghost use Rattle.sour_scope.specs.Numbered.{side_of, predicate_of, pass_of, plan
 
 use crate::expressions::literal_of;
 use crate::names::{DistinctNames, copy_of};
-use sour_reader::{RawPass, RawPlanJob, RawPlanSimple, RawPredicate};
+use sour_raw::{RawPass, RawPlanJob, RawPlanSimple, RawPredicate};
 use sour_syntax::{List, Pass, PlanJob, PlanPredicate, PlanSimple};
 use std::alloc::{AllocError, Global};
 

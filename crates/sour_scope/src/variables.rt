@@ -1,10 +1,10 @@
 //! The variables of a version, by their names.
 
 ghost use Rattle.std.specs.Prelude.{◌≡◌, ◌∷◌, ◌++◌, IfOk, OnOk};
-ghost use Rattle.sour_reader.specs.Mentions.{simple_names, expr_names, each_names, map_names, extra_names, all_names, exit_names, instr_names, with_names, with_lines, variables_of};
+ghost use Rattle.sour_raw.specs.Mentions.{simple_names, expr_names, each_names, map_names, extra_names, all_names, exit_names, instr_names, with_names, with_lines, variables_of};
 
 use crate::names::DistinctNames;
-use sour_reader::{RawBind, RawExit, RawExpr, RawExtra, RawInstr, RawLine, RawSimple};
+use sour_raw::{RawBind, RawExit, RawExpr, RawExtra, RawInstr, RawLine, RawSimple};
 use sour_syntax::{Label, List};
 use std::alloc::{AllocError, Global};
 

@@ -3,8 +3,8 @@
 ghost use Rattle.std.specs.Prelude.{◌≡◌, ◌≤◌, length, map, IfOk, IfSome, IfNone, OnSome};
 ghost use Rattle.std.specs.List.{AllByRecursion};
 ghost use Rattle.sour_syntax.specs.Program.{NamesDiffer};
-ghost use Rattle.sour_reader.specs.declared.raw.RawVersion.{RawVersion};
-ghost use Rattle.sour_reader.specs.Limits.{IsShortVersion};
+ghost use Rattle.sour_raw.specs.declared.raw.RawVersion.{RawVersion};
+ghost use Rattle.sour_raw.specs.Limits.{IsShortVersion};
 ghost use Rattle.sour_scope.specs.Numbered.{version_of};
 ghost use Rattle.sour_scope.specs.Checked.{IsAcceptedVersion};
 
@@ -13,7 +13,7 @@ use crate::literals::lines_are_known;
 use crate::names::{DistinctNames, copy_of};
 use crate::outline::Outline;
 use crate::variables::variables_of;
-use sour_reader::RawVersion;
+use sour_raw::RawVersion;
 use sour_syntax::{Body, FunId, Label, List, Version};
 use std::alloc::{AllocError, Global};
 

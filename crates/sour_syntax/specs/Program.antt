@@ -77,7 +77,7 @@ pub record IsVersion (functions : List Function) (number : ℕ) (parameters : Li
   pub few_variables : length version.body.variables ≤ 1024
   pub instrs : AllByRecursion (λ line. IsShortInstr line.instr) version.body.lines
 
--- the function that has this number, among these functions: it has a version, its versions have different names, and all have as many parameters
+-- the function that has this number, among these functions: it has a version, its versions have different names, and all have the same parameters
 pub record IsFunction (functions : List Function) (number : ℕ) (function : Function) : Type 0 where
   pub name : IsName function.name
   pub some : ¬ (function.versions ≡ [])

@@ -5,7 +5,7 @@ use itoa::Buffer;
 use std::alloc::{AllocError, Global};
 use std::marker::Model;
 
-/// A label or another name. Contracts see it as its bytes.
+/// A name or a label. Contracts see it as its bytes.
 #[derive(Drop)]
 pub struct Label {
     bytes: Vec<u8>,

@@ -41,7 +41,7 @@ pub fn body_named<'a>(functions: &'a [Function], code: Code) -> Option<&'a Body>
     }
 }
 
-/// A checked program: what some text means.
+/// A checked program: what the check of a text gives.
 #[derive(Drop)]
 pub struct Program {
     functions: List<Function>,

@@ -1,5 +1,5 @@
 use Rattle.std.proofs.Common.{◌≤◌, Err, length, refl, ap, arith}
-use Rattle.sour_reader.specs.Job.{Reads}
+use Rattle.sour_raw.specs.Job.{Reads}
 use Rattle.sour_commands.specs.Answer.{text_limit, Accepts, ReadsAsNone, ReadsAsRefused}
 use Rattle.sour_commands.proofs.TextLemmas.{IfSome-GivesAll}
 use Rattle.sour_commands.proofs.run.accept.Goals as goal

@@ -1,7 +1,7 @@
 use Rattle.std.proofs.Common.{inl}
 use Rattle.std.proofs.lemmas.Result.{on_ok_weaker}
-use Rattle.sour_reader.specs.Mentions.{each_names, map_names, all_names, extra_names, exit_names}
-use Rattle.sour_reader.proofs.ExitMentionLaws.{both_append}
+use Rattle.sour_raw.specs.Mentions.{each_names, map_names, all_names, extra_names, exit_names}
+use Rattle.sour_raw.proofs.ExitMentionLaws.{both_append}
 use Rattle.sour_reader.proofs.exit_mentions.add_assume.Goals as goal
 
 pub returns : goal.returns

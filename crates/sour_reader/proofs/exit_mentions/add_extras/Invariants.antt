@@ -1,5 +1,5 @@
 use Rattle.std.proofs.Common.{take}
-use Rattle.sour_reader.specs.Mentions.{all_names, extra_names, with_names, AreOrBothMany}
+use Rattle.sour_raw.specs.Mentions.{all_names, extra_names, with_names, AreOrBothMany}
 use Rattle.sour_reader.proofs.exit_mentions.add_extras.Given as goal
 
 abbrev pub invariant-loop-extra : goal.invariant-loop-extra

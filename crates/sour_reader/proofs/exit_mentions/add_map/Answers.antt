@@ -1,5 +1,5 @@
-use Rattle.sour_reader.specs.Mentions.{bind_names}
-use Rattle.sour_reader.proofs.ExitMentionLaws.{all_names_more}
+use Rattle.sour_raw.specs.Mentions.{bind_names}
+use Rattle.sour_raw.proofs.ExitMentionLaws.{all_names_more}
 use Rattle.sour_reader.proofs.exit_mentions.add_map.Goals as goal
 
 pub loop-bind-preserved : goal.loop-bind-preserved

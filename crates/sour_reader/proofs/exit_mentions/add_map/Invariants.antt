@@ -1,5 +1,5 @@
 use Rattle.std.proofs.Common.{take}
-use Rattle.sour_reader.specs.Mentions.{map_names, with_names, AreOrBothMany}
+use Rattle.sour_raw.specs.Mentions.{map_names, with_names, AreOrBothMany}
 use Rattle.sour_reader.proofs.exit_mentions.add_map.Given as goal
 
 abbrev pub invariant-loop-bind : goal.invariant-loop-bind

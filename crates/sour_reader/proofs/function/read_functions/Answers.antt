@@ -1,5 +1,5 @@
 use Rattle.std.proofs.Common.{List, [], ◌∷◌, Err, length-append, ap, ◌∙◌, arith}
-use Rattle.sour_reader.specs.declared.raw.RawFunction.{RawFunction}
+use Rattle.sour_raw.specs.declared.raw.RawFunction.{RawFunction}
 use Rattle.sour_reader.specs.Ahead.{AheadView, ReadsAs, EachUpTo}
 use Rattle.sour_reader.specs.Front.{HasFunction, AreBehindFunctions, EndFunctions}
 use Rattle.sour_reader.proofs.Faults.{unplaced_from_unplaced}

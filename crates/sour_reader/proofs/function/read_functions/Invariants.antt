@@ -1,5 +1,5 @@
 use Rattle.std.proofs.Common.{length, ◌-◌, ◌≤◌}
-use Rattle.sour_reader.specs.declared.raw.RawFunction.{RawFunction}
+use Rattle.sour_raw.specs.declared.raw.RawFunction.{RawFunction}
 use Rattle.sour_reader.specs.Front.{HasFunction, EndFunctions}
 use Rattle.sour_reader.proofs.Readings.{ReadSoFar}
 use Rattle.sour_reader.proofs.function.read_functions.Given as goal

@@ -1,7 +1,7 @@
 use Rattle.std.proofs.Common.{◌≡◌, ◌≤◌, length, map, take, drop, refl, ◌∙◌, arith}
 use Rattle.sour_tokens.specs.Token.{spelling}
 use Rattle.std.proofs.lemmas.List.{length-map}
-use Rattle.sour_reader.specs.Operand.{operand_length}
+use Rattle.sour_raw.specs.Operand.{operand_length}
 use Rattle.sour_reader.proofs.Lists.{map_parts}
 use Rattle.sour_reader.proofs.ValueLaws.{next_value, no_value_short, no_value, some_made, take_length}
 use Rattle.sour_reader.proofs.inputs.first_value.Goals as goal

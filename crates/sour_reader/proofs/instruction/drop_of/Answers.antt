@@ -1,8 +1,8 @@
 use Rattle.std.proofs.Common.{◌∷◌, map}
 use Rattle.std.specs.Prelude.{codes}
 use Rattle.sour_tokens.specs.Token.{spelling}
-use Rattle.sour_reader.specs.declared.raw.RawInstr.TheVariants.{Drop}
-use Rattle.sour_reader.specs.Instruction.{SpellsInstr}
+use Rattle.sour_raw.specs.declared.raw.RawInstr.TheVariants.{Drop}
+use Rattle.sour_raw.specs.Instruction.{SpellsInstr}
 use Rattle.sour_reader.proofs.Found.{finds_same, mapped}
 use Rattle.sour_reader.proofs.Instructions.{dropping}
 use Rattle.sour_reader.proofs.instruction.drop_of.Goals as goal

@@ -1,6 +1,6 @@
 use Rattle.std.proofs.Common.{◌≡◌, true}
 use Rattle.std.specs.Char.{is_ascii_digit}
-use Rattle.sour_reader.proofs.Labels.{digits_from_first}
+use Rattle.sour_raw.proofs.Labels.{digits_from_first}
 use Rattle.sour_reader.proofs.label.are_digits.Goals as goal
 
 pub returns-then-is_ascii_digit : goal.returns-then-is_ascii_digit

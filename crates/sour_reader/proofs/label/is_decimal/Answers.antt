@@ -1,7 +1,7 @@
 use Rattle.std.proofs.Common.{◌↔◌}
 use Rattle.sour_tokens.specs.Token.{IsDigits}
-use Rattle.sour_reader.specs.Label.{IsDecimal}
-use Rattle.sour_reader.proofs.Labels.{decimal_digits}
+use Rattle.sour_raw.specs.Label.{IsDecimal}
+use Rattle.sour_raw.proofs.Labels.{decimal_digits}
 use Rattle.sour_reader.proofs.label.is_decimal.Goals as goal
 
 pub returns-then-digits-ne48 : goal.returns-then-digits-ne48

@@ -1,4 +1,4 @@
-use Rattle.sour_reader.specs.Label.{IsLabel}
+use Rattle.sour_raw.specs.Label.{IsLabel}
 use Rattle.sour_tokens.specs.Token.{spelling}
 use Rattle.std.proofs.Common.{◌≡◌}
 use Rattle.sour_reader.proofs.Found.{ok_as, finds_same}

@@ -1,6 +1,6 @@
 use Rattle.std.proofs.Common.{arith}
-use Rattle.sour_reader.specs.Label.{IsLabel}
-use Rattle.sour_reader.proofs.Labels.{only_one}
+use Rattle.sour_raw.specs.Label.{IsLabel}
+use Rattle.sour_raw.proofs.Labels.{only_one}
 use Rattle.sour_reader.proofs.label.only_label.Goals as goal
 
 pub returns : goal.returns

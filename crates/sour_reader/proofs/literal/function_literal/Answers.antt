@@ -1,8 +1,8 @@
 use Rattle.std.proofs.Common.{◌∷◌, []}
 use Rattle.std.specs.Prelude.{codes}
 use Rattle.sour_tokens.specs.Token.{spelling}
-use Rattle.sour_reader.specs.declared.raw.RawLiteral.TheVariants.{Function}
-use Rattle.sour_reader.specs.Literal.{SpellsLiteral}
+use Rattle.sour_raw.specs.declared.raw.RawLiteral.TheVariants.{Function}
+use Rattle.sour_raw.specs.Literal.{SpellsLiteral}
 use Rattle.sour_reader.proofs.Found.{finds_same, mapped}
 use Rattle.sour_reader.proofs.Operands.{function_found}
 use Rattle.sour_reader.proofs.literal.function_literal.Goals as goal

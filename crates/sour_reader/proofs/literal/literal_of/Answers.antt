@@ -1,8 +1,8 @@
 use Rattle.std.proofs.Common.{◌≡◌, ◌↔◌, Some, IfOk, map, arith}
 use Rattle.std.proofs.lemmas.List.{length-map}
 use Rattle.sour_tokens.specs.Token.{spelling}
-use Rattle.sour_reader.specs.declared.raw.RawLiteral.{RawLiteral}
-use Rattle.sour_reader.specs.Literal.{SpellsLiteral}
+use Rattle.sour_raw.specs.declared.raw.RawLiteral.{RawLiteral}
+use Rattle.sour_raw.specs.Literal.{SpellsLiteral}
 use Rattle.sour_reader.proofs.Lists.{at_one, at_two}
 use Rattle.sour_reader.proofs.Operands.{no_literal_sized}
 use Rattle.sour_reader.proofs.literal.literal_of.Goals as goal

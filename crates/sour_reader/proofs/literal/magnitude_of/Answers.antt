@@ -1,4 +1,4 @@
-use Rattle.sour_reader.proofs.Digits.{parse_from_token}
+use Rattle.sour_raw.proofs.Digits.{parse_from_token}
 use Rattle.sour_reader.proofs.literal.magnitude_of.Goals as goal
 
 pub returns : goal.returns

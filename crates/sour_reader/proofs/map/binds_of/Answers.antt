@@ -1,6 +1,6 @@
 use Rattle.std.proofs.Common.{map}
 use Rattle.sour_tokens.specs.Token.{spelling}
-use Rattle.sour_reader.specs.Exit.{SpellsBind}
+use Rattle.sour_raw.specs.Exit.{SpellsBind}
 use Rattle.sour_reader.proofs.BindLaws.{no_empty_bind}
 use Rattle.sour_reader.proofs.Found.{ok_as}
 use Rattle.sour_reader.proofs.Commas.{none_made, some_made, listed_empty, listed_some}

@@ -2,7 +2,7 @@ use Rattle.std.proofs.Common.{◌+◌, length-drop, map, arith}
 use Rattle.std.specs.Prelude.{codes}
 use Rattle.sour_tokens.specs.Token.{spelling, IsOfItsKind}
 use Rattle.sour_reader.proofs.ValueLaws.{rest_whole, kinds_left}
-use Rattle.sour_reader.specs.Exit.{SpellsBind}
+use Rattle.sour_raw.specs.Exit.{SpellsBind}
 use Rattle.sour_reader.proofs.BindLaws.{no_commas_bind}
 use Rattle.sour_reader.proofs.Commas.{some_more, some_end, some_no_next, some_no_last}
 use Rattle.sour_reader.proofs.Separated.{none_to_end}

@@ -2,8 +2,8 @@ use Rattle.std.proofs.Common.{◌≤◌, length, map}
 use Rattle.std.specs.List.{AllByRecursion}
 use Rattle.std.specs.Prelude.{codes}
 use Rattle.sour_tokens.specs.Token.{spelling, IsOfItsKind}
-use Rattle.sour_reader.specs.declared.raw.RawBind.{RawBind}
-use Rattle.sour_reader.specs.Exit.{SpellsBind}
+use Rattle.sour_raw.specs.declared.raw.RawBind.{RawBind}
+use Rattle.sour_raw.specs.Exit.{SpellsBind}
 use Rattle.sour_reader.specs.Separators.{IsAtFirst}
 use Rattle.sour_reader.proofs.Commas.{SomeSoFar}
 use Rattle.sour_reader.proofs.map.some_binds.Given as goal

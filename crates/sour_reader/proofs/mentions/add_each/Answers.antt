@@ -1,6 +1,6 @@
 use Rattle.std.proofs.Common.{length, arith, sym, ap, ◌∙◌}
-use Rattle.sour_reader.specs.Mentions.{expr_names, with_names}
-use Rattle.sour_reader.proofs.MentionLaws.{few_each_names, each_names_more}
+use Rattle.sour_raw.specs.Mentions.{expr_names, with_names}
+use Rattle.sour_raw.proofs.MentionLaws.{few_each_names, each_names_more}
 use Rattle.sour_reader.proofs.mentions.add_each.Goals as goal
 
 pub add_expr-requires : goal.add_expr-requires

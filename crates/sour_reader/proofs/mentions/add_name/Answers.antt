@@ -1,4 +1,4 @@
-use Rattle.sour_reader.proofs.MentionLaws.{numbered_with}
+use Rattle.sour_raw.proofs.MentionLaws.{numbered_with}
 use Rattle.sour_reader.proofs.mentions.add_name.Goals as goal
 
 pub returns : goal.returns

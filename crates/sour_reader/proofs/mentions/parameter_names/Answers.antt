@@ -1,6 +1,6 @@
 use Rattle.std.proofs.Common.{length, arith, sym, ap, ◌∙◌}
-use Rattle.sour_reader.specs.Mentions.{with_name}
-use Rattle.sour_reader.proofs.MentionLaws.{few_names, with_names_more}
+use Rattle.sour_raw.specs.Mentions.{with_name}
+use Rattle.sour_raw.proofs.MentionLaws.{few_names, with_names_more}
 use Rattle.sour_reader.proofs.mentions.parameter_names.Goals as goal
 
 pub add_name-requires : goal.add_name-requires

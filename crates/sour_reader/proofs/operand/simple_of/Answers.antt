@@ -1,7 +1,7 @@
 use Rattle.std.proofs.Common.{map}
 use Rattle.sour_tokens.specs.Token.{spelling}
-use Rattle.sour_reader.specs.declared.raw.RawSimple.TheVariants.{Name}
-use Rattle.sour_reader.specs.Expression.{SpellsSimple}
+use Rattle.sour_raw.specs.declared.raw.RawSimple.TheVariants.{Name}
+use Rattle.sour_raw.specs.Expression.{SpellsSimple}
 use Rattle.sour_reader.proofs.Found.{finds_same, mapped}
 use Rattle.sour_reader.proofs.Operands.{literal_operand, other_operand}
 use Rattle.sour_reader.proofs.operand.simple_of.Goals as goal

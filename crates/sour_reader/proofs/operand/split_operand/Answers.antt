@@ -1,7 +1,7 @@
 use Rattle.std.proofs.Common.{◌≡◌, length, map, ap, subst, ◌∙◌, arith}
 use Rattle.std.proofs.lemmas.List.{length-map}
 use Rattle.sour_tokens.specs.Token.{spelling}
-use Rattle.sour_reader.specs.Operand.{operand_length}
+use Rattle.sour_raw.specs.Operand.{operand_length}
 use Rattle.sour_reader.specs.Parts.{SplitsSo}
 use Rattle.sour_reader.proofs.Lists.{map_parts}
 use Rattle.sour_reader.proofs.Operands.{split_so, no_split_short}

@@ -1,8 +1,8 @@
 use Rattle.std.proofs.Common.{◌∷◌, map}
 use Rattle.std.specs.Prelude.{codes}
 use Rattle.sour_tokens.specs.Token.{spelling}
-use Rattle.sour_reader.specs.declared.raw.RawPass.TheVariants.{Compose}
-use Rattle.sour_reader.specs.Plan.{SpellsPass}
+use Rattle.sour_raw.specs.declared.raw.RawPass.TheVariants.{Compose}
+use Rattle.sour_raw.specs.Plan.{SpellsPass}
 use Rattle.sour_reader.proofs.Found.{finds_same, mapped}
 use Rattle.sour_reader.proofs.PassLaws.{compose_found}
 use Rattle.sour_reader.proofs.pass.compose_of.Goals as goal

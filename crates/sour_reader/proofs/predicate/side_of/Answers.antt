@@ -1,7 +1,7 @@
 use Rattle.std.proofs.Common.{map}
 use Rattle.sour_tokens.specs.Token.{spelling}
-use Rattle.sour_reader.specs.declared.raw.RawPlanSimple.TheVariants.{Name}
-use Rattle.sour_reader.specs.Plan.{SpellsSide}
+use Rattle.sour_raw.specs.declared.raw.RawPlanSimple.TheVariants.{Name}
+use Rattle.sour_raw.specs.Plan.{SpellsSide}
 use Rattle.sour_reader.proofs.Found.{finds_same, mapped}
 use Rattle.sour_reader.proofs.PassLaws.{literal_side, other_side}
 use Rattle.sour_reader.proofs.predicate.side_of.Goals as goal

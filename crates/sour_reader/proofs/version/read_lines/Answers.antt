@@ -3,7 +3,7 @@ use Rattle.sour_reader.specs.Front.{IsLine, BeginsVersionOrEnd}
 use Rattle.sour_reader.proofs.Faults.{unplaced_from_unplaced}
 use Rattle.sour_reader.proofs.Readings.{line_reads_none, no_line_reads}
 use Rattle.sour_reader.proofs.BodyLaws.{only_one, not_one, test_true, test_false, body_none, body_more, body_many_names, body_many_lines, body_no_line, whole_body}
-use Rattle.sour_reader.proofs.ExitMentionLaws.{these_few, these_many}
+use Rattle.sour_raw.proofs.ExitMentionLaws.{these_few, these_many}
 use Rattle.sour_reader.proofs.version.read_lines.Goals as goal
 
 pub loop-alloc-init : goal.loop-alloc-init

@@ -1,5 +1,5 @@
 use Rattle.std.proofs.Common.{ℕ, List, [], ◌∷◌, Err, length-append, ap, ◌∙◌, arith}
-use Rattle.sour_reader.specs.declared.raw.RawVersion.{RawVersion}
+use Rattle.sour_raw.specs.declared.raw.RawVersion.{RawVersion}
 use Rattle.sour_reader.specs.Ahead.{AheadView, ReadsAs, EachUpTo}
 use Rattle.sour_reader.specs.Front.{HasVersion, IsFunctionEnd, EndFunction}
 use Rattle.sour_reader.proofs.Faults.{unplaced_from_unplaced}

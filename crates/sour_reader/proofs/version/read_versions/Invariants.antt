@@ -1,5 +1,5 @@
 use Rattle.std.proofs.Common.{length, ◌-◌, ◌≤◌}
-use Rattle.sour_reader.specs.declared.raw.RawVersion.{RawVersion}
+use Rattle.sour_raw.specs.declared.raw.RawVersion.{RawVersion}
 use Rattle.sour_reader.specs.Front.{HasVersion, EndFunction}
 use Rattle.sour_reader.proofs.Readings.{ReadSoFar}
 use Rattle.sour_reader.proofs.version.read_versions.Given as goal

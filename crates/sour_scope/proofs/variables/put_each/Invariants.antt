@@ -1,5 +1,5 @@
 use Rattle.std.proofs.Common.{◌≡◌, take}
-use Rattle.sour_reader.specs.Mentions.{each_names, with_names}
+use Rattle.sour_raw.specs.Mentions.{each_names, with_names}
 use Rattle.sour_scope.proofs.variables.put_each.Given as goal
 
 abbrev pub invariant-loop-value : goal.invariant-loop-value

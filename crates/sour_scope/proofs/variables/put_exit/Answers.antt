@@ -1,4 +1,4 @@
-use Rattle.sour_reader.specs.Mentions.{map_names, extra_names, all_names}
+use Rattle.sour_raw.specs.Mentions.{map_names, extra_names, all_names}
 use Rattle.sour_scope.proofs.VariableLaws.{then_put}
 use Rattle.sour_scope.proofs.variables.put_exit.Goals as goal
 

@@ -1,5 +1,5 @@
 use Rattle.std.proofs.Common.{◌≡◌, take}
-use Rattle.sour_reader.specs.Mentions.{extra_names, all_names, with_names}
+use Rattle.sour_raw.specs.Mentions.{extra_names, all_names, with_names}
 use Rattle.sour_scope.proofs.variables.put_extras.Given as goal
 
 abbrev pub invariant-loop-extra : goal.invariant-loop-extra

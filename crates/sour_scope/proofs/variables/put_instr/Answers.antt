@@ -1,7 +1,7 @@
 use Rattle.std.proofs.Common.{◌≡◌, sym, subst}
 use Rattle.std.specs.Result.{OnOk}
-use Rattle.sour_reader.specs.declared.raw.RawInstr.{RawInstr}
-use Rattle.sour_reader.specs.Mentions.{each_names, exit_names, instr_names, with_names}
+use Rattle.sour_raw.specs.declared.raw.RawInstr.{RawInstr}
+use Rattle.sour_raw.specs.Mentions.{each_names, exit_names, instr_names, with_names}
 use Rattle.sour_scope.proofs.VariableLaws.{then_put}
 use Rattle.sour_scope.proofs.variables.put_instr.Goals as goal
 

@@ -1,6 +1,6 @@
 use Rattle.std.proofs.Common.{take, ap, ◌∙◌, arith}
 use Rattle.std.proofs.lemmas.List.{take_all}
-use Rattle.sour_reader.specs.Mentions.{with_lines}
+use Rattle.sour_raw.specs.Mentions.{with_lines}
 use Rattle.sour_syntax.proofs.Everywhere.{take_next}
 use Rattle.sour_scope.proofs.VariableLaws.{line_put}
 use Rattle.sour_scope.proofs.variables.put_lines.Goals as goal

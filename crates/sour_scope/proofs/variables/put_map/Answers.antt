@@ -1,6 +1,6 @@
 use Rattle.std.proofs.Common.{take, ap, ◌∙◌, arith}
 use Rattle.std.proofs.lemmas.List.{take_all}
-use Rattle.sour_reader.specs.Mentions.{bind_names, map_names, with_names}
+use Rattle.sour_raw.specs.Mentions.{bind_names, map_names, with_names}
 use Rattle.sour_syntax.proofs.Everywhere.{take_next}
 use Rattle.sour_scope.proofs.VariableLaws.{all_put}
 use Rattle.sour_scope.proofs.variables.put_map.Goals as goal

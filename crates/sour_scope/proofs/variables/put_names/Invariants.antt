@@ -1,5 +1,5 @@
 use Rattle.std.proofs.Common.{◌≡◌, take}
-use Rattle.sour_reader.specs.Mentions.{with_names}
+use Rattle.sour_raw.specs.Mentions.{with_names}
 use Rattle.sour_scope.proofs.variables.put_names.Given as goal
 
 abbrev pub invariant-loop-name : goal.invariant-loop-name

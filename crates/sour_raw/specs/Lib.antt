@@ -1,0 +1,12 @@
+pub mod Literal
+pub mod Operator
+pub mod Operand
+pub mod Label
+pub mod Expression
+pub mod Exit
+pub mod Instruction
+pub mod Mentions
+pub mod Plan
+pub mod Inputs
+pub mod Limits
+pub mod Job
