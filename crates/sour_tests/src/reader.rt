@@ -1,6 +1,7 @@
 //! Texts as they are written.
 
-use sour_reader::{RawExpr, RawInstr, RawJob, RawLiteral, RawSimple, TextFault, read_job};
+use sour_raw::{RawExpr, RawInstr, RawJob, RawLiteral, RawSimple};
+use sour_reader::{TextFault, read_job};
 use sour_syntax::Op;
 use std::alloc::Global;
 use std::test::Fail;
