@@ -1,7 +1,7 @@
 //! The lines of a text and their tokens.
 
 use sour_tokens::{LineFault, Symbol, Token, TokenLines};
-use std::alloc::Global;
+use std::test::Fail;
 
 const ARROW: Token = Token::Symbol(Symbol::Arrow);
 
@@ -17,66 +17,60 @@ const A: Token = Token::Word(b"a");
 
 const ONE: Token = Token::Digits(b"1");
 
-/// Whether the next line that has tokens has these; none is left where these are none.
-fn has_line<'a>(
-    lines: &mut TokenLines<'a>,
-    tokens: &mut Vec<Token<'a>>,
-    expected: &'a [Token<'a>],
-) -> Result<bool, LineFault> {
-    let found = lines.next_line(tokens)?;
-    Ok(found != expected.is_empty() && tokens.as_slice() == expected)
-}
-
-/// Whether the lines of a text that have tokens are two with these, or one where the second ones are
-/// none.
-fn has_lines<'a>(
-    alloc: Global,
+/// Puts the tokens of a line into `tokens`, counted from 0 among the lines of a text that have some; whether
+/// there is such a line.
+fn find_line<'a>(
     text: &'a [u8],
-    first: &'a [Token<'a>],
-    second: &'a [Token<'a>],
+    number: usize,
+    tokens: &mut Vec<Token<'a>>,
 ) -> Result<bool, LineFault> {
-    let mut tokens = Vec::new(alloc);
     let mut lines = TokenLines::new(text);
-    Ok(
-        has_line(&mut lines, &mut tokens, first)?
-            && has_line(&mut lines, &mut tokens, second)?
-            && has_line(&mut lines, &mut tokens, &[])?,
-    )
+    for _ in 0..number {
+        lines.next_line(tokens)?;
+    }
+    lines.next_line(tokens)
 }
 
 #[test]
-fn takes_the_longest_tokens_of_the_lines_that_have_some(rt: HostRuntime) {
-    let table: [(&[u8], &[Token], &[Token], Result<bool, LineFault>); 13] = [
-        (b"a <-1", &[A, ARROW, ONE], &[], Ok(true)),
-        (
-            b"a<=1==a",
-            &[A, LESS_EQUAL, ONE, EQUAL_EQUAL, A],
-            &[],
-            Ok(true),
-        ),
-        (b"<==", &[LESS_EQUAL, EQUAL], &[], Ok(true)),
-        (b"1a", &[ONE, A], &[], Ok(true)),
-        (
-            b"a1_ _9",
-            &[Token::Word(b"a1_"), Token::Word(b"_9")],
-            &[],
-            Ok(true),
-        ),
-        (b"||a||", &[OR_OR, A, OR_OR], &[], Ok(true)),
-        (b"\t1\r#1 \xFF", &[ONE], &[], Ok(true)),
-        (b"\n # \xFF\n\t\r \na\n#\n\n1 a", &[A], &[ONE, A], Ok(true)),
-        // A byte that begins no token.
-        (b"\xFF", &[], &[], Err(LineFault::NoToken)),
-        (b"a | a", &[], &[], Err(LineFault::NoToken)),
-        (b"$", &[], &[], Err(LineFault::NoToken)),
-        (b"a\n1 \x0B", &[A], &[], Err(LineFault::NoToken)),
-        (b"|", &[], &[], Err(LineFault::NoToken)),
+fn takes_the_longest_tokens_of_the_lines_that_have_some(rt: HostRuntime) -> Result<(), Fail> {
+    let mut tokens = Vec::new(rt.alloc());
+    let table: [(&[u8], usize, &[Token]); 9] = [
+        (b"a <-1", 0, &[A, ARROW, ONE]),
+        (b"a<=1==a", 0, &[A, LESS_EQUAL, ONE, EQUAL_EQUAL, A]),
+        (b"<==", 0, &[LESS_EQUAL, EQUAL]),
+        (b"1a", 0, &[ONE, A]),
+        (b"a1_ _9", 0, &[Token::Word(b"a1_"), Token::Word(b"_9")]),
+        (b"||a||", 0, &[OR_OR, A, OR_OR]),
+        (b"\t1\r#1 \xFF", 0, &[ONE]),
+        (b"\n # \xFF\n\t\r \na\n#\n\n1 a", 0, &[A]),
+        (b"\n # \xFF\n\t\r \na\n#\n\n1 a", 1, &[ONE, A]),
     ];
-    for (text, first, second, answer) in table {
+    for (text, number, expected) in table {
+        find_line(text, number, &mut tokens)?;
+        assert_eq!(rt; tokens.as_slice(), expected, "line {number} of {text:?}");
+    }
+    Ok(())
+}
+
+#[test]
+fn ends_where_no_line_is_left_and_at_a_byte_that_begins_no_token(rt: HostRuntime) {
+    let mut tokens = Vec::new(rt.alloc());
+    let table: [(&[u8], usize, Result<bool, LineFault>); 9] = [
+        (b"a <-1", 0, Ok(true)),
+        (b"a <-1", 1, Ok(false)),
+        (b"\n # \xFF\n\t\r \na\n#\n\n1 a", 2, Ok(false)),
+        (b"", 0, Ok(false)),
+        (b"\xFF", 0, Err(LineFault::NoToken)),
+        (b"a | a", 0, Err(LineFault::NoToken)),
+        (b"$", 0, Err(LineFault::NoToken)),
+        (b"|", 0, Err(LineFault::NoToken)),
+        (b"a\n1 \x0B", 1, Err(LineFault::NoToken)),
+    ];
+    for (text, number, found) in table {
         assert_eq!(rt;
-            has_lines(rt.alloc(), text, first, second),
-            answer,
-            "of {text:?}"
+            find_line(text, number, &mut tokens),
+            found,
+            "line {number} of {text:?}"
         );
     }
 }
