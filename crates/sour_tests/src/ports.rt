@@ -1,61 +1,77 @@
-ghost use Rattle.std.specs.Prelude.{◌≤◌, IfOk};
+//! Sources and sinks, and how all is read and written through them.
+
+ghost use Rattle.std.specs.Prelude.{◌<◌, ◌≤◌, IfOk};
 
 use sour_ports::{
     Failed, MemorySink, MemorySource, ReadStop, ReaderSource, Sink, Source, SureSink, SureSource,
     WriterSink, read_all, write_all,
 };
+use std::alloc::Global;
 use std::io;
 use std::io::{ErrorKind, Read, Write};
+use std::process::Abort;
 use std::test::Fail;
 
+/// Reads a source to its end within a limit, and once more where that stopped: why it stopped, if it
+/// did, and the bytes that were given.
+fn read_on<S: Source>(
+    alloc: Global,
+    source: &mut S,
+    limit: usize,
+) -> Result<(Option<ReadStop>, Vec<u8>), ReadStop>
+    requires { limit < usize.MAX }
+{
+    match read_all(alloc, source, limit) {
+        Ok(bytes) => Ok((None, bytes)),
+        Err(stop) => Ok((Some(stop), read_all(alloc, source, 9)?)),
+    }
+}
+
 #[test]
-fn reading_stops_at_the_listed_call_and_goes_on_behind_it(rt: HostRuntime) -> Result<(), Fail> {
+fn reading_stops_at_a_listed_call_and_past_its_limit(rt: HostRuntime) -> Result<(), Fail> {
     let alloc = rt.alloc();
-    // Three bytes one by one are four calls, the last of which finds the end.
-    for (failing, rest) in [(1u64, "abc"), (2, "bc"), (3, "c"), (4, "")] {
+    for (failing, limit, stop, bytes) in [
+        // Three bytes one by one are four calls, the last of which finds the end.
+        (1, 9, Some(ReadStop::Fault), "abc"),
+        (2, 9, Some(ReadStop::Fault), "bc"),
+        (3, 9, Some(ReadStop::Fault), "c"),
+        (4, 9, Some(ReadStop::Fault), ""),
+        (5, 9, None, "abc"),
+        // One byte more than the limit is read.
+        (9, 0, Some(ReadStop::TooLong), "bc"),
+        (9, 2, Some(ReadStop::TooLong), ""),
+        (9, 3, None, "abc"),
+        (9, 4, None, "abc"),
+    ] {
         let fails = vec![in alloc; failing]?;
         let mut source = MemorySource::new(b"abc".to_vec(alloc)?, 1, fails);
-        let stop = read_all(alloc, &mut source, 9).err();
-        assert_eq!(rt; stop, Some(ReadStop::Fault), "at {failing}");
-        let bytes = read_all(alloc, &mut source, 9)?;
-        assert_eq!(rt; bytes.as_slice(), rest.as_bytes(), "at {failing}");
-    }
-    let mut source = MemorySource::new(b"abc".to_vec(alloc)?, 1, vec![in alloc; 5u64]?);
-    assert_eq!(rt;
-        read_all(alloc, &mut source, 9)?.as_slice(),
-        b"abc".as_slice()
-    );
-    Ok(())
-}
-
-#[test]
-fn a_limit_is_kept_to_the_byte(rt: HostRuntime) -> Result<(), Fail> {
-    let alloc = rt.alloc();
-    for (limit, stop, left) in [
-        (0usize, Some(ReadStop::TooLong), 4usize),
-        (4, Some(ReadStop::TooLong), 0),
-        (5, None, 0),
-        (6, None, 0),
-    ] {
-        let mut source = MemorySource::new(b"abcde".to_vec(alloc)?, 2, Vec::new(alloc));
+        let (first, given) = read_on(alloc, &mut source, limit)?;
+        assert_eq!(rt; first, stop, "call {failing}, limit {limit}");
         assert_eq!(rt;
-            read_all(alloc, &mut source, limit).err(),
-            stop,
-            "at {limit}"
+            given.as_slice(),
+            bytes.as_bytes(),
+            "call {failing}, limit {limit}"
         );
-        let rest = read_all(alloc, &mut source, 9)?;
-        assert_eq!(rt; rest.len(), left, "at {limit}");
     }
     Ok(())
 }
 
+/// Hands pieces to a sink, one a call, and compares its answers.
+fn expect_answers<K: Sink>(
+    rt: &impl Abort,
+    sink: &mut K,
+    calls: &[(&[u8], Result<usize, Failed>)],
+) {
+    for (piece, answer) in calls {
+        assert_eq!(rt; sink.write(piece), *answer, "of {piece:?}");
+    }
+}
+
 #[test]
-fn writing_stops_at_the_listed_call_and_where_the_room_is_taken(
-    rt: HostRuntime,
-) -> Result<(), Fail> {
+fn writing_stops_at_a_listed_call_and_where_the_room_is_taken(rt: HostRuntime) -> Result<(), Fail> {
     let alloc = rt.alloc();
     for (failing, room, answer, taken) in [
-        (1u64, 3usize, Err(Failed), ""),
+        (1, 3, Err(Failed), ""),
         (2, 3, Err(Failed), "a"),
         (3, 3, Err(Failed), "ab"),
         (4, 3, Ok(()), "abc"),
@@ -63,8 +79,16 @@ fn writing_stops_at_the_listed_call_and_where_the_room_is_taken(
         (4, 0, Err(Failed), ""),
     ] {
         let mut sink = MemorySink::new(alloc, room, 1, vec![in alloc; failing]?)?;
-        assert_eq!(rt; write_all(&mut sink, b"abc"), answer, "{failing} of {room}");
-        assert_eq!(rt; sink.taken(), taken.as_bytes(), "{failing} of {room}");
+        assert_eq!(rt;
+            write_all(&mut sink, b"abc"),
+            answer,
+            "call {failing}, room {room}"
+        );
+        assert_eq!(rt;
+            sink.taken(),
+            taken.as_bytes(),
+            "call {failing}, room {room}"
+        );
     }
     Ok(())
 }
@@ -72,13 +96,19 @@ fn writing_stops_at_the_listed_call_and_where_the_room_is_taken(
 #[test]
 fn an_empty_piece_fails_at_a_listed_call_alone(rt: HostRuntime) -> Result<(), Fail> {
     let alloc = rt.alloc();
-    let mut sink = MemorySink::new(alloc, 0, 1, vec![in alloc; 2u64]?)?;
+    let mut sink = MemorySink::new(alloc, 0, 1, vec![in alloc; 2]?)?;
     // No call is made for nothing.
     assert_eq!(rt; write_all(&mut sink, b""), Ok(()));
-    assert_eq!(rt; sink.write(b""), Ok(0));
-    assert_eq!(rt; sink.write(b""), Err(Failed));
-    assert_eq!(rt; sink.write(b""), Ok(0));
-    assert_eq!(rt; sink.write(b"a"), Err(Failed));
+    expect_answers(
+        &rt,
+        &mut sink,
+        &[
+            (b"", Ok(0)),
+            (b"", Err(Failed)),
+            (b"", Ok(0)),
+            (b"a", Err(Failed)),
+        ],
+    );
     Ok(())
 }
 
@@ -87,11 +117,13 @@ fn sure_ports_give_and_take_all(rt: HostRuntime) -> Result<(), Fail> {
     let alloc = rt.alloc();
     let mut source = SureSource::new(b"abc".to_vec(alloc)?);
     let bytes = read_all(alloc, &mut source, 3)?;
-    assert_eq!(rt; bytes.as_slice(), b"abc".as_slice());
     let mut sink = SureSink::new();
-    assert_eq!(rt; write_all(&mut sink, &bytes), Ok(()));
-    assert_eq!(rt; write_all(&mut sink, b"de"), Ok(()));
-    assert_eq!(rt; sink.count(), 5);
+    expect_answers(
+        &rt,
+        &mut sink,
+        &[(&bytes, Ok(3)), (b"", Ok(0)), (b"de", Ok(2))],
+    );
+    assert_eq!(rt; (bytes.as_slice(), sink.count()), (b"abc".as_slice(), 5));
     Ok(())
 }
 
@@ -136,23 +168,27 @@ impl Write for Halting {
 
 #[test]
 fn an_error_of_a_reader_is_a_fault(rt: HostRuntime) -> Result<(), Fail> {
-    let alloc = rt.alloc();
     let mut source = ReaderSource::new(Halting { calls: 0 });
+    let (stop, bytes) = read_on(rt.alloc(), &mut source, 9)?;
     assert_eq!(rt;
-        read_all(alloc, &mut source, 9).err(),
-        Some(ReadStop::Fault)
+        (stop, bytes.as_slice()),
+        (Some(ReadStop::Fault), b"c".as_slice())
     );
-    let bytes = read_all(alloc, &mut source, 9)?;
-    assert_eq!(rt; bytes.as_slice(), b"c".as_slice());
     Ok(())
 }
 
 #[test]
 fn an_error_of_a_writer_is_a_fault_and_so_is_a_write_of_nothing(rt: HostRuntime) {
     let mut sink = WriterSink::new(Halting { calls: 0 });
-    assert_eq!(rt; sink.write(b"abc"), Ok(1));
-    assert_eq!(rt; sink.write(b"abc"), Err(Failed));
-    assert_eq!(rt; sink.write(b"abc"), Ok(1));
-    assert_eq!(rt; sink.write(b"abc"), Err(Failed));
-    assert_eq!(rt; sink.write(b""), Ok(0));
+    expect_answers(
+        &rt,
+        &mut sink,
+        &[
+            (b"abc", Ok(1)),
+            (b"abc", Err(Failed)),
+            (b"abc", Ok(1)),
+            (b"abc", Err(Failed)),
+            (b"", Ok(0)),
+        ],
+    );
 }

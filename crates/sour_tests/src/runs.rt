@@ -1,199 +1,165 @@
-ghost use Rattle.std.specs.Prelude.{◌≤◌};
-ghost use Rattle.sour_syntax.specs.Literals.{IsLiteral};
+//! Runs, and the reports on them.
 
-use crate::programs::{assuming, calling, printing, reading};
+use crate::jobs::job_of;
 use sour_machine::{Advance, End, Report, Run};
-use sour_syntax::{ArrayId, FunId, List, Literal, Program, Trap, Value};
-use std::alloc::{AllocError, Global};
-use std::sync::Arc;
+use sour_syntax::{ArrayId, Literal, Trap, Value};
+use std::alloc::Global;
 use std::test::Fail;
 
-/// What a program answers to a request for some turns on an input, and the report on it.
-fn run(
+/// Reads a number, prints one more, and returns what it reads next.
+const READS: &str =
+    "fun main()\nver base\nread x\nx <- x + 1\nprint x\nread x\nreturn x\nend\n%inputs\ninput 41";
+
+/// Reads a truth value. Where it is false it returns an array `[nil, nil]`. Where it is true it calls itself,
+/// writes 5 into the first cell of what that returns, prints it and this cell, and returns it.
+const CALLS: &str = "fun main()
+ver base
+read x
+branch x called made
+called: call y = &main()
+y[0] <- 5
+print y
+print y[0]
+return y
+made: array y[2]
+return y
+end
+%inputs
+input true false";
+
+/// Prints 7 for ever.
+const LOOPS: &str = "fun main()\nver base\nagain: print 7\ngoto again\nend\n%inputs\ninput";
+
+/// Prints 7, assumes what it reads, and stops; where that is false it begins again.
+const ASSUMES: &str = "fun main()
+ver base
+start: print 7
+read x
+assume x else main.base.start []
+stop
+end
+%inputs
+input";
+
+/// The turns that a run took which was given some, and the answer and the report where it was then given others.
+fn run_twice(
     alloc: Global,
-    program: Arc<Program>,
-    input: &[Literal],
-    turns: u64,
-) -> Result<(Advance, Report), AllocError>
-    requires { turns ≤ 10000000 }
-{
-    let mut run = Run::start(alloc, program, input)?;
-    let answer = run.advance_text(turns);
-    Ok((answer, run.finish(3)))
+    text: &[u8],
+    first: u8,
+    second: u8,
+) -> Result<(u64, Advance, Report), Fail> {
+    let job = job_of(alloc, text)?;
+    let input = job.inputs.get(0).ok_or("no input")?;
+    let mut run = Run::start(alloc, job.program.clone()?, input.as_slice())?;
+    run.advance_text(u64::from(first));
+    let turns = run.turns();
+    let answer = run.advance_text(u64::from(second));
+    Ok((turns, answer, run.finish(3)))
+}
+
+/// What a report counts: the input, the values read, turns, calls and cells.
+fn counts(report: &Report) -> [u64; 5] {
+    [
+        report.input,
+        report.read,
+        report.turns,
+        report.calls,
+        report.cells,
+    ]
 }
 
 #[test]
-fn reads_its_input(rt: HostRuntime) -> Result<(), Fail> {
-    let (number, truth) = (Literal::Number(41), Literal::Truth(true));
-    let program = reading(rt.alloc())?.expect(&rt, "a body");
-    let (answer, report) = run(rt.alloc(), program, &[number, truth], 1)?;
-    assert_eq!(rt; answer, Advance::Ended);
-    assert_eq!(rt; report.end, End::Returned(Value::Plain(truth)));
-    assert_eq!(rt; report.output.as_slice(), b"42\n".as_slice());
-    assert_eq!(rt;
-        [
-            report.input,
-            report.read,
-            report.turns,
-            report.calls,
-            report.cells
-        ],
-        [3, 2, 1, 1, 0]
-    );
-
-    let program = reading(rt.alloc())?.expect(&rt, "a body");
-    let (answer, report) = run(rt.alloc(), program, &[number], 1)?;
-    assert_eq!(rt; answer, Advance::Ended);
-    assert_eq!(rt; report.end, End::Trapped(Trap::InputEnd));
-    assert_eq!(rt; report.output.as_slice(), b"42\n".as_slice());
-    assert_eq!(rt; [report.read, report.turns], [1, 0]);
-
-    let program = reading(rt.alloc())?.expect(&rt, "a body");
-    let (_, report) = run(rt.alloc(), program, &[truth], 1)?;
-    assert_eq!(rt; report.end, End::Trapped(Trap::BadType));
-    Ok(())
-}
-
-#[test]
-fn calls_and_makes_arrays(rt: HostRuntime) -> Result<(), Fail> {
-    let input = [Literal::Truth(true), Literal::Truth(false)];
-    let program = calling(rt.alloc())?.expect(&rt, "a body");
-    let (answer, report) = run(rt.alloc(), program, &input, 5)?;
-    assert_eq!(rt; answer, Advance::Ended);
-    assert_eq!(rt; report.end, End::Returned(Value::Array(ArrayId(0))));
-    assert_eq!(rt; report.output.as_slice(), b"array(2)\n5\n".as_slice());
-    assert_eq!(rt;
-        [report.read, report.turns, report.calls, report.cells],
-        [2, 5, 2, 2]
-    );
-
-    let program = calling(rt.alloc())?.expect(&rt, "a body");
-    let (answer, report) = run(rt.alloc(), program, &input, 4)?;
-    assert_eq!(rt; answer, Advance::MoreTurns);
-    assert_eq!(rt; report.end, End::Cut);
-    assert_eq!(rt; report.output.as_slice(), b"array(2)\n5\n".as_slice());
-    assert_eq!(rt;
-        [report.read, report.turns, report.calls, report.cells],
-        [2, 4, 2, 0]
-    );
-    Ok(())
-}
-
-#[test]
-fn rests_before_a_turn(rt: HostRuntime) -> Result<(), Fail> {
-    let looping = printing(rt.alloc(), Literal::Number(7), true)?;
-    let program = looping.expect(&rt, "a body");
-    let mut run = Run::start(rt.alloc(), program, &[])?;
-    assert_eq!(rt; run.advance_text(0), Advance::MoreTurns);
-    assert_eq!(rt; run.turns(), 0);
-    assert_eq!(rt; run.advance_text(2), Advance::MoreTurns);
-    assert_eq!(rt; run.turns(), 2);
-    let report = run.finish(1);
-    assert_eq!(rt; report.end, End::Cut);
-    assert_eq!(rt; report.output.as_slice(), b"7\n7\n7\n".as_slice());
-    assert_eq!(rt;
-        [report.input, report.read, report.turns, report.calls],
-        [1, 0, 2, 1]
-    );
-    Ok(())
-}
-
-/// What a program answers that assumes these two literals, and the report on it.
-fn assumed(
-    alloc: Global,
-    first: Literal,
-    second: Literal,
-    turns: u64,
-) -> Result<Option<(Advance, Report)>, AllocError>
-    requires first { IsLiteral 1 first }
-    requires second { IsLiteral 1 second }
-    requires turns { turns ≤ 10000000 }
-{
-    match assuming(alloc, first, second)? {
-        Some(program) => Ok(Some(run(alloc, program, &[], turns)?)),
-        None => Ok(None),
+fn reports_how_a_run_went_on(rt: HostRuntime) -> Result<(), Fail> {
+    let truth = Value::Plain(Literal::Truth(true));
+    let array = Value::Array(ArrayId(0));
+    for (text, values, turns, answer, end, output, counted) in [
+        (
+            READS,
+            " true",
+            (0, 1),
+            (0, Advance::Ended),
+            End::Returned(truth),
+            "42\n",
+            [3, 2, 1, 1, 0],
+        ),
+        (
+            READS,
+            "",
+            (0, 1),
+            (0, Advance::Ended),
+            End::Trapped(Trap::InputEnd),
+            "42\n",
+            [3, 1, 0, 1, 0],
+        ),
+        (
+            CALLS,
+            "",
+            (2, 3),
+            (2, Advance::Ended),
+            End::Returned(array),
+            "array(2)\n5\n",
+            [3, 2, 5, 2, 2],
+        ),
+        (
+            CALLS,
+            "",
+            (3, 1),
+            (3, Advance::MoreTurns),
+            End::Cut,
+            "array(2)\n5\n",
+            [3, 2, 4, 2, 0],
+        ),
+        (
+            LOOPS,
+            "",
+            (0, 2),
+            (0, Advance::MoreTurns),
+            End::Cut,
+            "7\n7\n7\n",
+            [3, 0, 2, 1, 0],
+        ),
+        (
+            ASSUMES,
+            " true",
+            (0, 0),
+            (0, Advance::Ended),
+            End::Stopped,
+            "7\n",
+            [3, 1, 0, 1, 0],
+        ),
+        (
+            ASSUMES,
+            " nil",
+            (0, 0),
+            (0, Advance::Ended),
+            End::Trapped(Trap::BadType),
+            "7\n",
+            [3, 1, 0, 1, 0],
+        ),
+        (
+            ASSUMES,
+            " false",
+            (0, 0),
+            (0, Advance::MoreTurns),
+            End::Cut,
+            "7\n",
+            [3, 1, 0, 1, 0],
+        ),
+    ] {
+        let whole = format!(in rt.alloc(); "{text}{values}")?;
+        let (before, last, report) = run_twice(rt.alloc(), whole.as_bytes(), turns.0, turns.1)?;
+        assert_eq!(rt; ((before, last), report.end), (answer, end), "{whole}");
+        assert_eq!(rt; report.output.as_slice(), output.as_bytes(), "{whole}");
+        assert_eq!(rt; counts(&report), counted, "{whole}");
     }
-}
-
-#[test]
-fn passes_an_assume_without_a_turn(rt: HostRuntime) -> Result<(), Fail> {
-    let holds = Literal::Truth(true);
-    let (answer, report) = assumed(rt.alloc(), holds, holds, 0)?.expect(&rt, "a body");
-    assert_eq!(rt; answer, Advance::Ended);
-    assert_eq!(rt; report.end, End::Stopped);
-    assert_eq!(rt; report.output.as_slice(), b"7\n".as_slice());
-    assert_eq!(rt; [report.turns, report.calls], [0, 1]);
-
-    let (answer, report) = assumed(rt.alloc(), holds, Literal::Nil, 0)?.expect(&rt, "a body");
-    assert_eq!(rt; answer, Advance::Ended);
-    assert_eq!(rt; report.end, End::Trapped(Trap::BadType));
-    assert_eq!(rt; report.turns, 0);
-    Ok(())
-}
-
-#[test]
-fn leaves_where_a_predicate_is_false(rt: HostRuntime) -> Result<(), Fail> {
-    let fails = Literal::Truth(false);
-    let (answer, report) = assumed(rt.alloc(), fails, Literal::Nil, 0)?.expect(&rt, "a body");
-    assert_eq!(rt; answer, Advance::MoreTurns);
-    assert_eq!(rt; report.end, End::Cut);
-    assert_eq!(rt; report.output.as_slice(), b"7\n".as_slice());
-    assert_eq!(rt; report.turns, 0);
-
-    let (answer, report) = assumed(rt.alloc(), fails, Literal::Nil, 2)?.expect(&rt, "a body");
-    assert_eq!(rt; answer, Advance::MoreTurns);
-    assert_eq!(rt; report.end, End::Cut);
-    assert_eq!(rt; report.output.as_slice(), b"7\n7\n7\n".as_slice());
-    assert_eq!(rt; [report.turns, report.calls], [2, 1]);
-    Ok(())
-}
-
-#[test]
-fn keeps_where_its_exits_lead(rt: HostRuntime) -> Result<(), Fail> {
-    let fails = Literal::Truth(false);
-    let program = assuming(rt.alloc(), fails, fails)?.expect(&rt, "a body");
-    assert_eq!(rt; program.exit_place(FunId(0), 0, 3, 0), Some(0));
-    assert_eq!(rt; program.exit_place(FunId(0), 0, 3, 1), None);
-    Ok(())
-}
-
-/// What a program that prints this value writes.
-fn printed(alloc: Global, value: Literal) -> Result<Option<List<u8>>, AllocError>
-    requires { IsLiteral 1 value }
-{
-    let Some(program) = printing(alloc, value, false)? else {
-        return Ok(None);
-    };
-    let (_, report) = run(alloc, program, &[], 0)?;
-    Ok(Some(report.output))
-}
-
-#[test]
-fn prints_each_kind_of_value(rt: HostRuntime) -> Result<(), Fail> {
-    let least = printed(rt.alloc(), Literal::Number(i64::MIN))?.expect(&rt, "a body");
-    assert_eq!(rt; least.as_slice(), b"-9223372036854775808\n".as_slice());
-    let truth = printed(rt.alloc(), Literal::Truth(false))?.expect(&rt, "a body");
-    assert_eq!(rt; truth.as_slice(), b"false\n".as_slice());
-    let nil = printed(rt.alloc(), Literal::Nil)?.expect(&rt, "a body");
-    assert_eq!(rt; nil.as_slice(), b"nil\n".as_slice());
-    let function = printed(rt.alloc(), Literal::Function(FunId(0)))?.expect(&rt, "a body");
-    assert_eq!(rt; function.as_slice(), b"&main\n".as_slice());
     Ok(())
 }
 
 #[test]
 fn reports_an_input_that_found_no_memory(rt: HostRuntime) {
     let report = Report::wanting(rt.alloc(), 2);
-    assert_eq!(rt; report.end, End::Memory);
-    assert_eq!(rt; report.output.len(), 0);
     assert_eq!(rt;
-        [
-            report.input,
-            report.read,
-            report.turns,
-            report.calls,
-            report.cells
-        ],
-        [2, 0, 0, 0, 0]
+        (report.end, report.output.len(), counts(&report)),
+        (End::Memory, 0, [2, 0, 0, 0, 0])
     );
 }

@@ -1,3 +1,0 @@
-mod OneLine
-mod MainLaws
-mod ExitLaws

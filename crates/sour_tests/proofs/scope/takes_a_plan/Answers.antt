@@ -1,5 +1,0 @@
-use Rattle.std.proofs.Common.{refl}
-use Rattle.sour_tests.proofs.scope.takes_a_plan.Goals as goal
-
-pub check-requires : goal.check-requires
-check-requires g c = (_, (c.in_ok-read_job.ensures.found c.in_ok-read_job.field-0).1 refl)

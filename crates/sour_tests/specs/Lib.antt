@@ -1,2 +1,0 @@
-pub mod MainLines
-pub mod MainExits
