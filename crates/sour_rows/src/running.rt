@@ -1,8 +1,6 @@
 //! Running a row.
 
-ghost use Rattle.std.specs.Prelude.{◌≡◌, ◌-◌, IsNone, IfOk, take, map};
-ghost use Rattle.std.specs.String.{string_bytes};
-ghost use Rattle.sour_rows.specs.Serving.{MayAnswer};
+ghost use Rattle.std.specs.Prelude.{◌≡◌, ◌-◌, IfOk, take};
 
 use crate::answer::{Answer, Difference};
 use crate::row::{Failing, Row, Turns};
@@ -99,10 +97,7 @@ fn run(
     source_fails: Vec<u64>,
     sink_fails: Vec<u64>,
     wanted: &Answer,
-) -> Result<Option<Difference>, AllocError>
-    ensures { IfOk result (λ difference. IsNone difference
-        → MayAnswer (map string_bytes row.now.words.items) row.now.text.items wanted.now) }
-{
+) -> Result<Option<Difference>, AllocError> {
     let text = row.text.clone()?;
     let mut source = MemorySource::new(text, row.ports.source_pieces, source_fails);
     let mut sink = MemorySink::new(alloc, row.ports.room, row.ports.sink_pieces, sink_fails)?;
