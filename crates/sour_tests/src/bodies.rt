@@ -31,16 +31,7 @@ fn body_that_goes_to(alloc: Global, name: &str) -> Result<Option<Body>, AllocErr
     Body::checked(alloc, FunId(7), 0, variables, lines)
 }
 
-#[test]
-fn a_body_has_labels_of_its_own_and_one_scope_for_each(rt: HostRuntime) -> Result<(), Fail> {
-    for (label, is_body) in [("a", false), ("c", true), ("d", true), ("e", false)] {
-        let body = body_that_goes_to(rt.alloc(), label)?;
-        assert_eq!(rt; body.is_some(), is_body, "with {label}");
-    }
-    Ok(())
-}
-
-/// The function of a body and how many parameters, variables and lines it has.
+/// The function of a body, and how many parameters, variables and lines it has.
 fn counts(body: &Body) -> (FunId, u32, usize, usize) {
     (
         body.function(),
@@ -50,54 +41,110 @@ fn counts(body: &Body) -> (FunId, u32, usize, usize) {
     )
 }
 
+/// What a body has that goes to this label, where that is one.
+fn counts_with(
+    alloc: Global,
+    label: &str,
+) -> Result<Option<(FunId, u32, usize, usize)>, AllocError> {
+    Ok(body_that_goes_to(alloc, label)?.map(|body| counts(&body)))
+}
+
 #[test]
-fn a_body_gives_its_parts(rt: HostRuntime) -> Result<(), Fail> {
-    let body = body_that_goes_to(rt.alloc(), "d")?.ok_or("no body")?;
-    assert_eq!(rt; counts(&body), (FunId(7), 0, 1, 4));
+fn a_body_has_labels_of_its_own_and_one_scope_for_each(rt: HostRuntime) -> Result<(), Fail> {
+    for (label, parts) in [
+        ("a", None),
+        ("c", Some((FunId(7), 0, 1, 4))),
+        ("d", Some((FunId(7), 0, 1, 4))),
+        ("e", None),
+    ] {
+        assert!(rt; counts_with(rt.alloc(), label)? == parts, "with {label}");
+    }
     Ok(())
+}
+
+/// The place of a label in a body.
+fn place_in(alloc: Global, body: &Body, name: &str) -> Result<Option<usize>, AllocError> {
+    let label = label_of(alloc, name)?;
+    Ok(body.place(&label))
+}
+
+/// The place of a label in a body that goes to `d`.
+fn place_of(alloc: Global, name: &str) -> Result<Option<usize>, Fail> {
+    let body = body_that_goes_to(alloc, "d")?.ok_or("no body")?;
+    Ok(place_in(alloc, &body, name)?)
 }
 
 #[test]
 fn a_body_knows_its_labels(rt: HostRuntime) -> Result<(), Fail> {
-    let body = body_that_goes_to(rt.alloc(), "d")?.ok_or("no body")?;
     for (name, place) in [("a", Some(0)), ("d", Some(3)), ("e", None)] {
-        let label = label_of(rt.alloc(), name)?;
-        assert_eq!(rt; body.place(&label), place, "of {name}");
+        assert!(rt; place_of(rt.alloc(), name)? == place, "of {name}");
     }
-    assert_eq!(rt; body.jumps().get(1).map(|jump| jump.first), Some(3));
     Ok(())
+}
+
+/// Where the second line of a body goes, and how many variables are in scope at a place and which is
+/// the first.
+fn paths_in(body: &Body, place: usize) -> (Option<usize>, Option<(usize, Option<VarId>)>) {
+    let goes = body.jumps().get(1).map(|jump| jump.first);
+    if place >= body.lines().len() {
+        return (goes, None);
+    }
+    let scope = body.scope(place);
+    (
+        goes,
+        scope.map(|variables| (variables.len(), variables.first().copied())),
+    )
+}
+
+/// The same of a body that goes to `d`.
+fn paths_at(
+    alloc: Global,
+    place: usize,
+) -> Result<(Option<usize>, Option<(usize, Option<VarId>)>), Fail> {
+    let body = body_that_goes_to(alloc, "d")?.ok_or("no body")?;
+    Ok(paths_in(&body, place))
 }
 
 #[test]
 fn a_body_knows_its_scopes(rt: HostRuntime) -> Result<(), Fail> {
-    let body = body_that_goes_to(rt.alloc(), "d")?.ok_or("no body")?;
-    let x: &[VarId] = &[VarId(0)];
-    for (place, scope) in [(0, Some(&x[..0])), (1, Some(x)), (2, None), (3, Some(x))] {
-        assert!(rt; place < body.lines().len());
-        assert_eq!(rt; body.scope(place), scope, "at {place}");
+    let x = Some(VarId(0));
+    for (place, scope) in [
+        (0, Some((0, None))),
+        (1, Some((1, x))),
+        (2, None),
+        (3, Some((1, x))),
+    ] {
+        assert!(rt;
+            paths_at(rt.alloc(), place)? == (Some(3), scope),
+            "at {place}"
+        );
     }
     Ok(())
 }
 
+/// The function of the body that a code names.
+fn function_in(functions: &[Function], code: Code) -> Option<FunId> {
+    body_named(functions, code).map(Body::function)
+}
+
+/// The same among one function with one version.
+fn function_named(alloc: Global, code: Code) -> Result<Option<FunId>, Fail> {
+    let body = body_that_goes_to(alloc, "d")?.ok_or("no body")?;
+    let name = label_of(alloc, "base")?;
+    let versions = List::from_vec(vec![in alloc; Version { name, body }]?);
+    let name = label_of(alloc, "f")?;
+    Ok(function_in(&[Function { name, versions }], code))
+}
+
 #[test]
 fn a_code_names_a_body(rt: HostRuntime) -> Result<(), Fail> {
-    let alloc = rt.alloc();
-    let body = body_that_goes_to(alloc, "d")?.ok_or("no body")?;
-    let version = Version {
-        name: label_of(alloc, "base")?,
-        body,
-    };
-    let functions = [Function {
-        name: label_of(alloc, "f")?,
-        versions: List::from_vec(vec![in alloc; version]?),
-    }];
     for (code, function) in [
         (Code::Text(FunId(0), 0), Some(FunId(7))),
         (Code::Text(FunId(0), 1), None),
         (Code::Text(FunId(1), 0), None),
         (Code::Made(1), None),
     ] {
-        assert_eq!(rt; body_named(&functions, code).map(Body::function), function);
+        assert!(rt; function_named(rt.alloc(), code)? == function, "{code:?}");
     }
     Ok(())
 }
@@ -107,12 +154,8 @@ fn stop(alloc: Global) -> Result<List<Line>, AllocError>
     ensures { IfOk result (λ lines. lines ≡ record { label = automatic_label 0; instr = Instr.Stop } ∷ []) }
 {
     let label = Label::automatic(alloc, 0)?;
-    let mut lines = List::new(alloc);
-    lines.push(Line {
-        label,
-        instr: Instr::Stop,
-    })?;
-    Ok(lines)
+    let instr = Instr::Stop;
+    Ok(List::from_vec(vec![in alloc; Line { label, instr }]?))
 }
 
 /// A body that stops, of parts that are known to be those of a body.
@@ -129,7 +172,7 @@ fn body_that_stops(alloc: Global) -> Result<Option<Body>, AllocError> {
 
 #[test]
 fn a_body_is_made_of_its_parts(rt: HostRuntime) -> Result<(), Fail> {
-    let body = body_that_stops(rt.alloc())?.ok_or("no body")?;
-    assert_eq!(rt; counts(&body), (FunId(2), 0, 0, 1));
+    let parts = body_that_stops(rt.alloc())?.map(|body| counts(&body));
+    assert!(rt; parts == Some((FunId(2), 0, 0, 1)));
     Ok(())
 }

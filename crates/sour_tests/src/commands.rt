@@ -1,10 +1,10 @@
 //! The commands, and what they write.
 
-use crate::jobs::job_of;
+use crate::jobs::seen;
 use sour_commands::{Fault, command_run, sourir, write_block, write_fault};
 use sour_machine::{End, Report};
-use sour_ports::{MemorySink, MemorySource};
-use sour_syntax::{ArrayId, FunId, List, Literal, Trap, Value};
+use sour_ports::{Failed, MemorySink, MemorySource};
+use sour_syntax::{ArrayId, FunId, List, Literal, Program, Trap, Value};
 use std::alloc::{AllocError, Global};
 use std::test::Fail;
 
@@ -13,41 +13,67 @@ fn ample_sink(alloc: Global) -> Result<MemorySink, AllocError> {
     MemorySink::new(alloc, 4096, 10, Vec::new(alloc))
 }
 
+/// What comes of writing the block of a run with this end and these cells, which wrote two lines for
+/// input 12, and what was written.
+fn block_of(
+    alloc: Global,
+    program: &Program,
+    end: End,
+    cells: u64,
+) -> Result<(Result<(), Failed>, Vec<u8>), AllocError> {
+    let mut report = Report::wanting(alloc, 12);
+    report.output = List::from_vec(b"7\ntrue\n".to_vec(alloc)?);
+    report.end = end;
+    report.cells = cells;
+    let mut sink = ample_sink(alloc)?;
+    let answer = write_block(&mut sink, program, &report);
+    Ok((answer, sink.taken().to_vec(alloc)?))
+}
+
 #[test]
 fn writes_the_block_of_a_report(rt: HostRuntime) -> Result<(), Fail> {
-    let alloc = rt.alloc();
-    let program = job_of(alloc, b"fun main()\nver base\nstop\nend\n")?.program;
-    for (end, cells, line) in [
+    let text = b"fun main()\nver base\nstop\nend\n";
+    for (end, cells, block) in [
         (
             End::Returned(Value::Plain(Literal::Number(-70))),
             0,
-            "end -70\n",
+            "input 12\n7\ntrue\nend -70\n",
         ),
         (
             End::Returned(Value::Plain(Literal::Function(FunId(0)))),
             0,
-            "end &main\n",
+            "input 12\n7\ntrue\nend &main\n",
         ),
         (
             End::Returned(Value::Array(ArrayId(5))),
             12,
-            "end array(12)\n",
+            "input 12\n7\ntrue\nend array(12)\n",
         ),
-        (End::Stopped, 0, "stopped\n"),
-        (End::Trapped(Trap::ArgCount), 0, "trap 6\n"),
-        (End::Cut, 0, "cut\n"),
-        (End::Memory, 0, "memory\n"),
+        (End::Stopped, 0, "input 12\n7\ntrue\nstopped\n"),
+        (
+            End::Trapped(Trap::ArgCount),
+            0,
+            "input 12\n7\ntrue\ntrap 6\n",
+        ),
+        (End::Cut, 0, "input 12\n7\ntrue\ncut\n"),
+        (End::Memory, 0, "input 12\n7\ntrue\nmemory\n"),
     ] {
-        let mut report = Report::wanting(alloc, 12);
-        report.output = List::from_vec(b"7\ntrue\n".to_vec(alloc)?);
-        report.end = end;
-        report.cells = cells;
-        let mut sink = ample_sink(alloc)?;
-        assert_eq!(rt; write_block(&mut sink, &program, &report), Ok(()));
-        let block = format!(in alloc; "input 12\n7\ntrue\n{line}")?;
-        assert_eq!(rt; sink.taken(), block.as_bytes());
+        let alloc = rt.alloc();
+        let found = seen(alloc, text, |job| block_of(alloc, &job.program, end, cells))?;
+        let (answer, written) = found?;
+        assert!(rt;
+            answer == Ok(()) && written.as_slice() == block.as_bytes(),
+            "{end:?}"
+        );
     }
     Ok(())
+}
+
+/// What is written for a fault, and the status.
+fn line_of(alloc: Global, fault: Fault) -> Result<(Vec<u8>, u8), AllocError> {
+    let mut sink = ample_sink(alloc)?;
+    let status = write_fault(&mut sink, fault);
+    Ok((sink.taken().to_vec(alloc)?, status))
 }
 
 #[test]
@@ -60,9 +86,11 @@ fn writes_the_line_of_a_fault(rt: HostRuntime) -> Result<(), Fail> {
         (Fault::ScopeUnplaced, "fault scope 0 line 0\n", 3),
         (Fault::Memory, "fault memory\n", 6),
     ] {
-        let mut sink = ample_sink(rt.alloc())?;
-        assert_eq!(rt; write_fault(&mut sink, fault), status, "{fault:?}");
-        assert_eq!(rt; sink.taken(), line.as_bytes(), "{fault:?}");
+        let (written, given) = line_of(rt.alloc(), fault)?;
+        assert!(rt;
+            given == status && written.as_slice() == line.as_bytes(),
+            "{fault:?}"
+        );
     }
     Ok(())
 }
@@ -87,33 +115,48 @@ fn source(alloc: Global) -> Result<MemorySource, AllocError> {
     Ok(MemorySource::new(SUM.to_vec(alloc)?, 10, Vec::new(alloc)))
 }
 
+/// What is written for that text at a budget, and the status.
+fn run(alloc: Global, budget: u8) -> Result<(Vec<u8>, u8), AllocError> {
+    let (mut source, mut sink) = (source(alloc)?, ample_sink(alloc)?);
+    let status = command_run(alloc, &mut source, &mut sink, u64::from(budget));
+    Ok((sink.taken().to_vec(alloc)?, status))
+}
+
 #[test]
 fn runs_a_text_at_a_budget(rt: HostRuntime) -> Result<(), Fail> {
-    for (budget, written, status) in [(8u8, "input 1\nend 6\n", 0), (7, "input 1\ncut\n", 7)] {
-        let (mut source, mut sink) = (source(rt.alloc())?, ample_sink(rt.alloc())?);
-        let given = command_run(rt.alloc(), &mut source, &mut sink, u64::from(budget));
-        assert_eq!(rt; given, status, "at {budget}");
-        assert_eq!(rt; sink.taken(), written.as_bytes(), "at {budget}");
+    for (budget, block, status) in [(8, "input 1\nend 6\n", 0), (7, "input 1\ncut\n", 7)] {
+        let (written, given) = run(rt.alloc(), budget)?;
+        assert!(rt;
+            given == status && written.as_slice() == block.as_bytes(),
+            "at {budget}"
+        );
     }
     Ok(())
 }
 
+/// What is written for these words and that text, and the status.
+fn answered(alloc: Global, words: &[&str]) -> Result<(Vec<u8>, u8), AllocError> {
+    let mut strings = Vec::new(alloc);
+    for word in words {
+        strings.push(String::from_str(alloc, word)?)?;
+    }
+    let (mut source, mut sink) = (source(alloc)?, ample_sink(alloc)?);
+    let status = sourir(alloc, strings.as_slice(), &mut source, &mut sink);
+    Ok((sink.taken().to_vec(alloc)?, status))
+}
+
 #[test]
 fn does_what_the_words_ask_for(rt: HostRuntime) -> Result<(), Fail> {
-    let rows: [(&[&str], &str, u8); 3] = [
-        (&["run"], "input 1\nend 6\n", 0),
-        (&["run", "--budget", "7"], "input 1\ncut\n", 7),
-        (&["runn"], "fault words\n", 2),
-    ];
-    for (words, written, status) in rows {
-        let mut strings = Vec::new(rt.alloc());
-        for word in words {
-            strings.push(String::from_str(rt.alloc(), word)?)?;
-        }
-        let (mut source, mut sink) = (source(rt.alloc())?, ample_sink(rt.alloc())?);
-        let given = sourir(rt.alloc(), strings.as_slice(), &mut source, &mut sink);
-        assert_eq!(rt; given, status, "{words:?}");
-        assert_eq!(rt; sink.taken(), written.as_bytes(), "{words:?}");
+    for (words, answer, status) in [
+        (["run", "--budget", "8"], "input 1\nend 6\n", 0),
+        (["run", "--budget", "7"], "input 1\ncut\n", 7),
+        (["run", "--budget", "0"], "fault words\n", 2),
+    ] {
+        let (written, given) = answered(rt.alloc(), &words)?;
+        assert!(rt;
+            given == status && written.as_slice() == answer.as_bytes(),
+            "{words:?}"
+        );
     }
     Ok(())
 }

@@ -6,7 +6,7 @@ ghost use Rattle.sour_syntax.specs.Exits.{continuations, exit_values};
 ghost use Rattle.sour_syntax.specs.Scopes.{variables_of_each};
 ghost use Rattle.sour_syntax.specs.Targets.{IsNamed};
 
-use crate::jobs::job_of;
+use crate::jobs::seen;
 use sour_machine::{Env, Frame, FrameCode, Heap, LeaveStop, leave};
 use sour_syntax::{Exit, FunId, Instr, Label, Literal, Program, Trap, Value, VarId};
 use std::alloc::Global;
@@ -57,55 +57,59 @@ fn left(alloc: Global, program: &Program, place: usize) -> Result<Option<Vec<Fra
     Ok(Some(leave(alloc, program, &frame, &Heap::new(alloc), exit)?))
 }
 
-/// The label of a frame, the values of `y` and of `x` in the other version, and the variable that waits.
-fn parts(frame: &Frame) -> (&[u8], Option<Value>, Option<Value>, Option<VarId>) {
+/// What is looked at in a frame: its code, whether it is at `two`, the values of `y` and of `x` in the other
+/// version, and the variable that waits.
+type Landed = (FrameCode, bool, Option<Value>, Option<Value>, Option<VarId>);
+
+fn parts(frame: &Frame) -> Landed {
+    let is_second = frame.label().as_bytes() == b"two".as_slice();
     let env = frame.env();
     (
-        frame.label().as_bytes(),
+        *frame.code(),
+        is_second,
         env.get(VarId(0)),
         env.get(VarId(1)),
         frame.waits(),
     )
 }
 
-#[test]
-fn makes_the_frames_of_an_exit(rt: HostRuntime) -> Result<(), Fail> {
-    let program = job_of(rt.alloc(), TEXT)?.program;
-    let frames = left(rt.alloc(), &program, 2)?.ok_or("no exit")?;
-    let number = |n: i64| Some(Value::Plain(Literal::Number(n)));
-    let rows: [(
-        usize,
-        Option<(&[u8], Option<Value>, Option<Value>, Option<VarId>)>,
-    ); 4] = [
-        (0, Some((b"one", number(7), None, None))),
-        (1, Some((b"two", number(4), None, Some(VarId(1))))),
-        (
-            2,
-            Some((
-                b"two",
-                None,
-                Some(Value::Plain(Literal::Nil)),
-                Some(VarId(0)),
-            )),
-        ),
-        (3, None),
-    ];
-    for (place, found) in rows {
-        assert_eq!(rt; frames.get(place).map(parts), found, "frame {place}");
+/// One of the frames that the exit of a line makes, if there is that one.
+fn frame_of(
+    alloc: Global,
+    program: &Program,
+    place: usize,
+    number: usize,
+) -> Result<Option<Landed>, LeaveStop> {
+    match left(alloc, program, place)? {
+        Some(frames) => Ok(frames.get(number).map(parts)),
+        None => Ok(None),
     }
-    Ok(())
 }
 
 #[test]
-fn runs_the_version_that_an_exit_names(rt: HostRuntime) -> Result<(), Fail> {
-    let program = job_of(rt.alloc(), TEXT)?.program;
-    let frames = left(rt.alloc(), &program, 2)?.ok_or("no exit")?;
-    assert!(rt;
-        frames
-            .iter()
-            .all(|frame| *frame.code() == FrameCode::Text(FunId(0), 1))
-    );
-    let stop = left(rt.alloc(), &program, 3).err();
-    assert_eq!(rt; stop, Some(LeaveStop::Trap(Trap::BadType)));
+fn makes_the_frames_of_an_exit(rt: HostRuntime) -> Result<(), Fail> {
+    let number = |n: i64| Some(Value::Plain(Literal::Number(n)));
+    let nil = Some(Value::Plain(Literal::Nil));
+    let code = FrameCode::Text(FunId(0), 1);
+    for (place, frame, expected) in [
+        (2, 0, Ok(Some((code, false, number(7), None, None)))),
+        (
+            2,
+            1,
+            Ok(Some((code, true, number(4), None, Some(VarId(1))))),
+        ),
+        (2, 2, Ok(Some((code, true, None, nil, Some(VarId(0)))))),
+        (2, 3, Ok(None)),
+        (3, 0, Err(LeaveStop::Trap(Trap::BadType))),
+        (4, 0, Ok(None)),
+    ] {
+        let alloc = rt.alloc();
+        let found = seen(
+            alloc,
+            TEXT,
+            |job| frame_of(alloc, &job.program, place, frame),
+        )?;
+        assert!(rt; found == expected, "frame {frame} of line {place}");
+    }
     Ok(())
 }

@@ -1,5 +1,7 @@
 //! Jobs, each from its text.
 
+ghost use Rattle.std.specs.Prelude.{IsAlwaysCallable};
+
 use sour_reader::read_job;
 use sour_scope::check;
 use sour_syntax::Job;
@@ -9,4 +11,16 @@ use std::test::Fail;
 /// The job that a text means.
 pub(crate) fn job_of(alloc: Global, text: &[u8]) -> Result<Job, Fail> {
     Ok(check(alloc, read_job(alloc, text)?)?)
+}
+
+/// What is seen in the job that a text means.
+pub(crate) fn seen<T: Drop, F: Fn(&Job) -> T>(
+    alloc: Global,
+    text: &[u8],
+    look: F,
+) -> Result<T, Fail>
+    requires { F.IsAlwaysCallable look }
+{
+    let job = job_of(alloc, text)?;
+    Ok(look(&job))
 }

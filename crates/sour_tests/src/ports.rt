@@ -1,12 +1,12 @@
 //! Sources and sinks, and how all is read and written through them.
 
-ghost use Rattle.std.specs.Prelude.{◌<◌, ◌≤◌, IfOk};
+ghost use Rattle.std.specs.Prelude.{◌≤◌, IfOk};
 
 use sour_ports::{
     Failed, MemorySink, MemorySource, ReadStop, ReaderSource, Sink, Source, SureSink, SureSource,
     WriterSink, read_all, write_all,
 };
-use std::alloc::Global;
+use std::alloc::{AllocError, Global};
 use std::io;
 use std::io::{ErrorKind, Read, Write};
 use std::process::Abort;
@@ -17,19 +17,27 @@ use std::test::Fail;
 fn read_on<S: Source>(
     alloc: Global,
     source: &mut S,
-    limit: usize,
-) -> Result<(Option<ReadStop>, Vec<u8>), ReadStop>
-    requires { limit < usize.MAX }
-{
-    match read_all(alloc, source, limit) {
+    limit: u8,
+) -> Result<(Option<ReadStop>, Vec<u8>), ReadStop> {
+    match read_all(alloc, source, usize::from(limit)) {
         Ok(bytes) => Ok((None, bytes)),
         Err(stop) => Ok((Some(stop), read_all(alloc, source, 9)?)),
     }
 }
 
+/// The same of three bytes that are given one by one, where a call fails.
+fn read_where_one_fails(
+    alloc: Global,
+    failing: u64,
+    limit: u8,
+) -> Result<(Option<ReadStop>, Vec<u8>), Fail> {
+    let fails = vec![in alloc; failing]?;
+    let mut source = MemorySource::new(b"abc".to_vec(alloc)?, 1, fails);
+    Ok(read_on(alloc, &mut source, limit)?)
+}
+
 #[test]
 fn reading_stops_at_a_listed_call_and_past_its_limit(rt: HostRuntime) -> Result<(), Fail> {
-    let alloc = rt.alloc();
     for (failing, limit, stop, bytes) in [
         // Three bytes one by one are four calls, the last of which finds the end.
         (1, 9, Some(ReadStop::Fault), "abc"),
@@ -43,13 +51,10 @@ fn reading_stops_at_a_listed_call_and_past_its_limit(rt: HostRuntime) -> Result<
         (9, 3, None, "abc"),
         (9, 4, None, "abc"),
     ] {
-        let fails = vec![in alloc; failing]?;
-        let mut source = MemorySource::new(b"abc".to_vec(alloc)?, 1, fails);
-        let (first, given) = read_on(alloc, &mut source, limit)?;
-        assert_eq!(rt; first, stop, "call {failing}, limit {limit}");
-        assert_eq!(rt;
-            given.as_slice(),
-            bytes.as_bytes(),
+        let (found, given) = read_where_one_fails(rt.alloc(), failing, limit)?;
+        assert!(rt; found == stop, "call {failing}, limit {limit}");
+        assert!(rt;
+            given.as_slice() == bytes.as_bytes(),
             "call {failing}, limit {limit}"
         );
     }
@@ -63,13 +68,23 @@ fn expect_answers<K: Sink>(
     calls: &[(&[u8], Result<usize, Failed>)],
 ) {
     for (piece, answer) in calls {
-        assert_eq!(rt; sink.write(piece), *answer, "of {piece:?}");
+        assert!(rt; sink.write(piece) == *answer, "of {piece:?}");
     }
+}
+
+/// What comes of writing three bytes one by one where a call fails, and what was taken.
+fn write_where_one_fails(
+    alloc: Global,
+    failing: u64,
+    room: usize,
+) -> Result<(Result<(), Failed>, Vec<u8>), AllocError> {
+    let mut sink = MemorySink::new(alloc, room, 1, vec![in alloc; failing]?)?;
+    let answer = write_all(&mut sink, b"abc");
+    Ok((answer, sink.taken().to_vec(alloc)?))
 }
 
 #[test]
 fn writing_stops_at_a_listed_call_and_where_the_room_is_taken(rt: HostRuntime) -> Result<(), Fail> {
-    let alloc = rt.alloc();
     for (failing, room, answer, taken) in [
         (1, 3, Err(Failed), ""),
         (2, 3, Err(Failed), "a"),
@@ -78,15 +93,10 @@ fn writing_stops_at_a_listed_call_and_where_the_room_is_taken(rt: HostRuntime) -
         (4, 2, Err(Failed), "ab"),
         (4, 0, Err(Failed), ""),
     ] {
-        let mut sink = MemorySink::new(alloc, room, 1, vec![in alloc; failing]?)?;
-        assert_eq!(rt;
-            write_all(&mut sink, b"abc"),
-            answer,
-            "call {failing}, room {room}"
-        );
-        assert_eq!(rt;
-            sink.taken(),
-            taken.as_bytes(),
+        let (found, bytes) = write_where_one_fails(rt.alloc(), failing, room)?;
+        assert!(rt; found == answer, "call {failing}, room {room}");
+        assert!(rt;
+            bytes.as_slice() == taken.as_bytes(),
             "call {failing}, room {room}"
         );
     }
@@ -98,7 +108,7 @@ fn an_empty_piece_fails_at_a_listed_call_alone(rt: HostRuntime) -> Result<(), Fa
     let alloc = rt.alloc();
     let mut sink = MemorySink::new(alloc, 0, 1, vec![in alloc; 2]?)?;
     // No call is made for nothing.
-    assert_eq!(rt; write_all(&mut sink, b""), Ok(()));
+    assert!(rt; write_all(&mut sink, b"").is_ok());
     expect_answers(
         &rt,
         &mut sink,
@@ -123,7 +133,7 @@ fn sure_ports_give_and_take_all(rt: HostRuntime) -> Result<(), Fail> {
         &mut sink,
         &[(&bytes, Ok(3)), (b"", Ok(0)), (b"de", Ok(2))],
     );
-    assert_eq!(rt; (bytes.as_slice(), sink.count()), (b"abc".as_slice(), 5));
+    assert!(rt; bytes.as_slice() == b"abc".as_slice() && sink.count() == 5);
     Ok(())
 }
 
@@ -170,10 +180,7 @@ impl Write for Halting {
 fn an_error_of_a_reader_is_a_fault(rt: HostRuntime) -> Result<(), Fail> {
     let mut source = ReaderSource::new(Halting { calls: 0 });
     let (stop, bytes) = read_on(rt.alloc(), &mut source, 9)?;
-    assert_eq!(rt;
-        (stop, bytes.as_slice()),
-        (Some(ReadStop::Fault), b"c".as_slice())
-    );
+    assert!(rt; stop == Some(ReadStop::Fault) && bytes.as_slice() == b"c".as_slice());
     Ok(())
 }
 

@@ -1,7 +1,7 @@
 //! Programs, from their texts.
 
-use crate::jobs::job_of;
-use sour_syntax::FunId;
+use crate::jobs::seen;
+use sour_syntax::{FunId, Program};
 use std::test::Fail;
 
 /// An exit of `main` makes a frame at the second line of another version, and one at the third.
@@ -24,21 +24,35 @@ stop
 end
 ";
 
+/// Whether a program has a function of this number with this name and so many versions.
+fn has_function(program: &Program, number: u32, name: &str, versions: usize) -> bool {
+    match program.function(FunId(number)) {
+        Some(function) => {
+            function.name.as_bytes() == name.as_bytes() && function.versions.len() == versions
+        }
+        None => false,
+    }
+}
+
 #[test]
 fn a_program_gives_its_functions(rt: HostRuntime) -> Result<(), Fail> {
-    let program = job_of(rt.alloc(), TEXT)?.program;
-    for (number, name) in [(0, Some("f")), (1, Some("main")), (2, None)] {
-        let function = program.function(FunId(number));
-        let bytes = function.map(|function| function.name.as_bytes());
-        assert_eq!(rt; bytes, name.map(str::as_bytes), "function {number}");
+    for (number, name, versions, found) in [
+        (0, "f", 2, true),
+        (1, "main", 2, true),
+        (1, "f", 2, false),
+        (2, "", 0, false),
+    ] {
+        let there = seen(rt.alloc(), TEXT, |job| {
+            has_function(&job.program, number, name, versions)
+        })?;
+        assert!(rt; there == found, "function {number}");
     }
-    assert_eq!(rt; program.main(), FunId(1));
     Ok(())
 }
 
 #[test]
 fn a_program_keeps_where_its_exits_lead(rt: HostRuntime) -> Result<(), Fail> {
-    let program = job_of(rt.alloc(), TEXT)?.program;
+    let main = seen(rt.alloc(), TEXT, |job| job.program.main())?;
     for (version, line, number, place) in [
         (0, 1, 0, Some(1)),
         (0, 1, 1, Some(2)),
@@ -46,10 +60,11 @@ fn a_program_keeps_where_its_exits_lead(rt: HostRuntime) -> Result<(), Fail> {
         (0, 2, 0, None),
         (1, 1, 0, None),
     ] {
-        let found = program.exit_place(FunId(1), version, line, number);
-        assert_eq!(rt;
-            found,
-            place,
+        let found = seen(rt.alloc(), TEXT, |job| {
+            job.program.exit_place(main, version, line, number)
+        })?;
+        assert!(rt;
+            found == place,
             "version {version}, line {line}, frame {number}"
         );
     }

@@ -4,7 +4,6 @@ use sour_raw::{RawExpr, RawInstr, RawJob, RawLiteral, RawSimple};
 use sour_reader::{TextFault, read_job};
 use sour_syntax::Op;
 use std::alloc::Global;
-use std::test::Fail;
 
 /// How many functions, jobs of a plan and inputs a text has.
 fn counts(alloc: Global, text: &[u8]) -> Result<[usize; 3], TextFault> {
@@ -33,12 +32,12 @@ fn reads_texts_of_the_form_alone(rt: HostRuntime) {
         ),
     ];
     for (text, answer) in table {
-        assert_eq!(rt; counts(rt.alloc(), text), answer, "of {text:?}");
+        assert!(rt; counts(rt.alloc(), text) == answer, "of {text:?}");
     }
 }
 
-/// The names of the first function, of its second parameter, of its first version, of the label there, and of
-/// what is assigned there, with the number and the name that are added.
+/// The names of the first function, of its second parameter, of its first version, of the label there,
+/// and of what is assigned there, with the number and the name that are added.
 fn names(job: &RawJob) -> Option<([&[u8]; 6], i64)> {
     let function = job.functions.get(0)?;
     let parameter = function.parameters.get(1)?;
@@ -65,10 +64,43 @@ fn names(job: &RawJob) -> Option<([&[u8]; 6], i64)> {
     Some((names, *n))
 }
 
+/// Whether these are the names and the number of a job.
+fn has_names(job: &RawJob, expected: [&str; 6], number: i64) -> bool {
+    match names(job) {
+        Some((found, n)) => {
+            n == number
+                && found
+                    .iter()
+                    .zip(&expected)
+                    .all(|(name, text)| *name == text.as_bytes())
+        }
+        None => false,
+    }
+}
+
+/// The same of the job that a text spells.
+fn spells(alloc: Global, text: &str, expected: [&str; 6], number: i64) -> Result<bool, TextFault> {
+    let job = read_job(alloc, text.as_bytes())?;
+    Ok(has_names(&job, expected, number))
+}
+
 #[test]
-fn keeps_what_is_written(rt: HostRuntime) -> Result<(), Fail> {
-    let job = read_job(rt.alloc(), b"fun f(a, b)\nver v\nl: c <- -12 + d\nend\n")?;
-    let expected: [&[u8]; 6] = [b"f", b"b", b"v", b"l", b"c", b"d"];
-    assert_eq!(rt; names(&job), Some((expected, -12)));
-    Ok(())
+fn keeps_what_is_written(rt: HostRuntime) {
+    for (text, names, number) in [
+        (
+            "fun f(a, b)\nver v\nl: c <- -12 + d\nend\n",
+            ["f", "b", "v", "l", "c", "d"],
+            -12,
+        ),
+        (
+            "fun b(b,a)#\n\nver b\n b : b<-7+b # c\nend",
+            ["b", "a", "b", "b", "b", "b"],
+            7,
+        ),
+    ] {
+        assert!(rt;
+            spells(rt.alloc(), text, names, number) == Ok(true),
+            "{text}"
+        );
+    }
 }

@@ -1,9 +1,9 @@
 //! Runs, and the reports on them.
 
-use crate::jobs::job_of;
+use crate::jobs::seen;
 use sour_machine::{Advance, End, Report, Run};
-use sour_syntax::{ArrayId, Literal, Trap, Value};
-use std::alloc::Global;
+use sour_syntax::{ArrayId, Job, Literal, Trap, Value};
+use std::alloc::{AllocError, Global};
 use std::test::Fail;
 
 /// Reads a number, prints one more, and returns what it reads next.
@@ -41,22 +41,6 @@ end
 %inputs
 input";
 
-/// The turns that a run took which was given some, and the answer and the report where it was then given others.
-fn run_twice(
-    alloc: Global,
-    text: &[u8],
-    first: u8,
-    second: u8,
-) -> Result<(u64, Advance, Report), Fail> {
-    let job = job_of(alloc, text)?;
-    let input = job.inputs.get(0).ok_or("no input")?;
-    let mut run = Run::start(alloc, job.program.clone()?, input.as_slice())?;
-    run.advance_text(u64::from(first));
-    let turns = run.turns();
-    let answer = run.advance_text(u64::from(second));
-    Ok((turns, answer, run.finish(3)))
-}
-
 /// What a report counts: the input, the values read, turns, calls and cells.
 fn counts(report: &Report) -> [u64; 5] {
     [
@@ -68,89 +52,136 @@ fn counts(report: &Report) -> [u64; 5] {
     ]
 }
 
+/// How a run went on that was given turns twice: the turns that it took at first, the last answer, its end,
+/// what the report counts, and whether this is its output.
+type Course = (u64, Advance, End, [u64; 5], bool);
+
+/// How a run of the first input of a job goes on that is given turns twice.
+fn course_in(
+    alloc: Global,
+    job: &Job,
+    turns: (u8, u8),
+    output: &str,
+) -> Result<Option<Course>, AllocError> {
+    let Some(input) = job.inputs.get(0) else {
+        return Ok(None);
+    };
+    let mut run = Run::start(alloc, job.program.clone()?, input.as_slice())?;
+    run.advance_text(u64::from(turns.0));
+    let before = run.turns();
+    let answer = run.advance_text(u64::from(turns.1));
+    let report = run.finish(3);
+    let is_written = report.output.as_slice() == output.as_bytes();
+    Ok(Some((before, answer, report.end, counts(&report), is_written)))
+}
+
+/// The same of a text whose last line goes on with some values.
+fn course(
+    alloc: Global,
+    text: &str,
+    values: &str,
+    turns: (u8, u8),
+    output: &str,
+) -> Result<Option<Course>, Fail> {
+    let whole = format!(in alloc; "{text}{values}")?;
+    Ok(seen(
+        alloc,
+        whole.as_bytes(),
+        |job| course_in(alloc, job, turns, output),
+    )??)
+}
+
 #[test]
 fn reports_how_a_run_went_on(rt: HostRuntime) -> Result<(), Fail> {
     let truth = Value::Plain(Literal::Truth(true));
     let array = Value::Array(ArrayId(0));
-    for (text, values, turns, answer, end, output, counted) in [
+    for (text, values, turns, output, before, answer, end, counted) in [
         (
             READS,
             " true",
             (0, 1),
-            (0, Advance::Ended),
-            End::Returned(truth),
             "42\n",
+            0,
+            Advance::Ended,
+            End::Returned(truth),
             [3, 2, 1, 1, 0],
         ),
         (
             READS,
             "",
             (0, 1),
-            (0, Advance::Ended),
-            End::Trapped(Trap::InputEnd),
             "42\n",
+            0,
+            Advance::Ended,
+            End::Trapped(Trap::InputEnd),
             [3, 1, 0, 1, 0],
         ),
         (
             CALLS,
             "",
             (2, 3),
-            (2, Advance::Ended),
-            End::Returned(array),
             "array(2)\n5\n",
+            2,
+            Advance::Ended,
+            End::Returned(array),
             [3, 2, 5, 2, 2],
         ),
         (
             CALLS,
             "",
             (3, 1),
-            (3, Advance::MoreTurns),
-            End::Cut,
             "array(2)\n5\n",
+            3,
+            Advance::MoreTurns,
+            End::Cut,
             [3, 2, 4, 2, 0],
         ),
         (
             LOOPS,
             "",
             (0, 2),
-            (0, Advance::MoreTurns),
-            End::Cut,
             "7\n7\n7\n",
+            0,
+            Advance::MoreTurns,
+            End::Cut,
             [3, 0, 2, 1, 0],
         ),
         (
             ASSUMES,
             " true",
             (0, 0),
-            (0, Advance::Ended),
-            End::Stopped,
             "7\n",
+            0,
+            Advance::Ended,
+            End::Stopped,
             [3, 1, 0, 1, 0],
         ),
         (
             ASSUMES,
             " nil",
             (0, 0),
-            (0, Advance::Ended),
-            End::Trapped(Trap::BadType),
             "7\n",
+            0,
+            Advance::Ended,
+            End::Trapped(Trap::BadType),
             [3, 1, 0, 1, 0],
         ),
         (
             ASSUMES,
             " false",
             (0, 0),
-            (0, Advance::MoreTurns),
-            End::Cut,
             "7\n",
+            0,
+            Advance::MoreTurns,
+            End::Cut,
             [3, 1, 0, 1, 0],
         ),
     ] {
-        let whole = format!(in rt.alloc(); "{text}{values}")?;
-        let (before, last, report) = run_twice(rt.alloc(), whole.as_bytes(), turns.0, turns.1)?;
-        assert_eq!(rt; ((before, last), report.end), (answer, end), "{whole}");
-        assert_eq!(rt; report.output.as_slice(), output.as_bytes(), "{whole}");
-        assert_eq!(rt; counts(&report), counted, "{whole}");
+        let found = course(rt.alloc(), text, values, turns, output)?;
+        assert!(rt;
+            found == Some((before, answer, end, counted, true)),
+            "{text}{values}"
+        );
     }
     Ok(())
 }
@@ -158,8 +189,6 @@ fn reports_how_a_run_went_on(rt: HostRuntime) -> Result<(), Fail> {
 #[test]
 fn reports_an_input_that_found_no_memory(rt: HostRuntime) {
     let report = Report::wanting(rt.alloc(), 2);
-    assert_eq!(rt;
-        (report.end, report.output.len(), counts(&report)),
-        (End::Memory, 0, [2, 0, 0, 0, 0])
-    );
+    assert!(rt; report.end == End::Memory && report.output.len() == 0);
+    assert!(rt; counts(&report) == [2, 0, 0, 0, 0]);
 }

@@ -47,7 +47,7 @@ fn takes_the_longest_tokens_of_the_lines_that_have_some(rt: HostRuntime) -> Resu
     ];
     for (text, number, expected) in table {
         find_line(text, number, &mut tokens)?;
-        assert_eq!(rt; tokens.as_slice(), expected, "line {number} of {text:?}");
+        assert!(rt; tokens.as_slice() == expected, "line {number} of {text:?}");
     }
     Ok(())
 }
@@ -67,10 +67,7 @@ fn ends_where_no_line_is_left_and_at_a_byte_that_begins_no_token(rt: HostRuntime
         (b"a\n1 \x0B", 1, Err(LineFault::NoToken)),
     ];
     for (text, number, found) in table {
-        assert_eq!(rt;
-            find_line(text, number, &mut tokens),
-            found,
-            "line {number} of {text:?}"
-        );
+        let last = find_line(text, number, &mut tokens);
+        assert!(rt; last == found, "line {number} of {text:?}");
     }
 }

@@ -1,11 +1,14 @@
 //! Values and what expressions make of them.
 
-use crate::jobs::job_of;
+use crate::jobs::seen;
 use itoa::Buffer;
 use sour_machine::{Env, Heap, eval, value_head, value_middle, value_tail, value_text};
-use sour_syntax::{ArrayId, Expr, FunId, List, Literal, Op, Simple, Trap, Value, VarId};
+use sour_syntax::{ArrayId, Expr, FunId, List, Literal, Op, Program, Simple, Trap, Value, VarId};
 use std::alloc::{AllocError, Global};
 use std::test::Fail;
+
+/// A text whose one function is `main`.
+const STOPS: &[u8] = b"fun main()\nver base\nstop\nend\n";
 
 fn number(n: i64) -> Value {
     Value::Plain(Literal::Number(n))
@@ -88,7 +91,7 @@ fn calculates_at_the_edges(rt: HostRuntime) -> Result<(), Fail> {
         (Op::Mul, -2, 3, Ok(-6)),
     ] {
         let found = given(rt.alloc(), Form::Binary(op), number(x), number(y))?;
-        assert_eq!(rt; found, result.map(number), "{x} {op:?} {y}");
+        assert!(rt; found == result.map(number), "{x} {op:?} {y}");
     }
     Ok(())
 }
@@ -118,7 +121,7 @@ fn compares_and_combines(rt: HostRuntime) -> Result<(), Fail> {
         (Op::Or, TRUE, TRUE, true),
     ] {
         let found = given(rt.alloc(), Form::Binary(op), x, y)?;
-        assert_eq!(rt; found, Ok(truth(holds)), "{x:?} {op:?} {y:?}");
+        assert!(rt; found == Ok(truth(holds)), "{x:?} {op:?} {y:?}");
     }
     Ok(())
 }
@@ -141,7 +144,7 @@ fn refuses_values_of_another_kind(rt: HostRuntime) -> Result<(), Fail> {
         (Op::Or, number(7), TRUE),
     ] {
         let found = given(rt.alloc(), Form::Binary(op), x, y)?;
-        assert_eq!(rt; found, Err(Trap::BadType), "{x:?} {op:?} {y:?}");
+        assert!(rt; found == Err(Trap::BadType), "{x:?} {op:?} {y:?}");
     }
     Ok(())
 }
@@ -162,9 +165,9 @@ fn tells_values_apart(rt: HostRuntime) -> Result<(), Fail> {
     for i in 0..9 {
         for j in 0..9 {
             let found = given(rt.alloc(), Form::Binary(Op::Eq), values[i], values[j])?;
-            assert_eq!(rt; found, Ok(truth(i == j)), "{i} and {j}");
+            assert!(rt; found == Ok(truth(i == j)), "{i} and {j}");
             let found = given(rt.alloc(), Form::Binary(Op::Ne), values[i], values[j])?;
-            assert_eq!(rt; found, Ok(truth(i != j)), "{i} and {j}");
+            assert!(rt; found == Ok(truth(i != j)), "{i} and {j}");
         }
     }
     Ok(())
@@ -190,37 +193,50 @@ fn gives_cells_lengths_and_other_truth_values(rt: HostRuntime) -> Result<(), Fai
         (Form::Not, function(0), NIL, Err(Trap::BadType)),
     ] {
         let found = given(rt.alloc(), form, x, y)?;
-        assert_eq!(rt; found, result, "{form:?} of {x:?} and {y:?}");
+        assert!(rt; found == result, "{form:?} of {x:?} and {y:?}");
     }
     Ok(())
 }
 
+/// Whether the parts of what a value prints as are these, where an array has two cells.
+fn has_parts(program: &Program, value: Value, head: &str, middle: &str, tail: &str) -> bool {
+    let mut digits = Buffer::new();
+    value_head(value) == head.as_bytes()
+        && value_middle(value, program, 2, &mut digits) == middle.as_bytes()
+        && value_tail(value) == tail.as_bytes()
+}
+
+/// What a value prints as, where there is the array `[7, true]`.
+fn text_of(alloc: Global, program: &Program, value: Value) -> Result<Vec<u8>, AllocError> {
+    value_text(alloc, &value, program, &heap_of_one(alloc)?)
+}
+
 #[test]
 fn gives_the_text_of_values(rt: HostRuntime) -> Result<(), Fail> {
-    let alloc = rt.alloc();
-    let program = job_of(alloc, b"fun main()\nver base\nstop\nend\n")?.program;
-    let heap = heap_of_one(alloc)?;
-    for (value, head, middle, tail) in [
-        (number(-70), "", "-70", ""),
-        (number(i64::MIN), "", "-9223372036854775808", ""),
-        (TRUE, "", "true", ""),
-        (FALSE, "", "false", ""),
-        (NIL, "", "nil", ""),
-        (function(0), "&", "main", ""),
-        (ARRAY, "array(", "2", ")"),
+    for (value, head, middle, tail, text) in [
+        (number(-70), "", "-70", "", "-70"),
+        (
+            number(i64::MIN),
+            "",
+            "-9223372036854775808",
+            "",
+            "-9223372036854775808",
+        ),
+        (TRUE, "", "true", "", "true"),
+        (FALSE, "", "false", "", "false"),
+        (NIL, "", "nil", "", "nil"),
+        (function(0), "&", "main", "", "&main"),
+        (ARRAY, "array(", "2", ")", "array(2)"),
     ] {
-        let mut digits = Buffer::new();
-        assert_eq!(rt; value_head(value), head.as_bytes());
-        assert_eq!(rt;
-            value_middle(value, &program, 2, &mut digits),
-            middle.as_bytes()
-        );
-        assert_eq!(rt; value_tail(value), tail.as_bytes());
-        let text = value_text(alloc, &value, &program, &heap)?;
-        assert_eq!(rt;
-            text.as_slice(),
-            format!(in alloc; "{head}{middle}{tail}")?.as_bytes()
-        );
+        let alloc = rt.alloc();
+        let there = seen(
+            alloc,
+            STOPS,
+            |job| has_parts(&job.program, value, head, middle, tail),
+        )?;
+        assert!(rt; there, "the parts of {text}");
+        let written = seen(alloc, STOPS, |job| text_of(alloc, &job.program, value))??;
+        assert!(rt; written.as_slice() == text.as_bytes(), "{text}");
     }
     Ok(())
 }
