@@ -1,115 +1,178 @@
 //! Leaving a frame of the language.
 
-ghost use Rattle.std.specs.Prelude.{◌≡◌, ◌<◌, [], IfSome};
-ghost use Rattle.std.specs.List.{AllByRecursion};
-ghost use Rattle.sour_syntax.specs.Exits.{continuations, exit_values};
-ghost use Rattle.sour_syntax.specs.Scopes.{variables_of_each};
-ghost use Rattle.sour_syntax.specs.Targets.{IsNamed};
+ghost use Rattle.std.specs.Prelude.{◌≡◌, [], ◌∷◌, true, IfOk, IsTrue};
+ghost use Rattle.sour_semantics.specs.Validity.{scope_of};
+ghost use Rattle.sour_tests.specs.MainExits.{main_start, main_target, main_extra, main_exit, HasStart, IsOfTwo};
 
-use crate::jobs::seen;
+use crate::jobs::job_of;
 use sour_machine::{Env, Frame, FrameCode, Heap, LeaveStop, leave};
-use sour_syntax::{Exit, FunId, Instr, Label, Literal, Program, Trap, Value, VarId};
-use std::alloc::Global;
+use sour_syntax::{
+    Bind, Code, Exit, Expr, Extra, FunId, Label, List, Literal, Op, Program, Simple, Target, Trap,
+    Value, VarId,
+};
+use std::alloc::{AllocError, Global};
 use std::test::Fail;
 
-/// In the version that is left, `x` and `y` are 3 and 4, and there are no others; in the other one they have
-/// their numbers the other way round.
+const X: VarId = VarId(0);
+
+const Y: VarId = VarId(1);
+
+/// A program of `main`, with the line `a` and two variables.
 const TEXT: &[u8] = b"fun main()
-ver fast
-var x = 3
-var y = 4
-assume false else main.slow.one [y = x + y], main.slow.two x [y = y], main.slow.two y [x = nil]
-assume false else main.slow.one [y = !x]
-stop
-ver slow
-var y = 0
-one: var x = y
-two: print x
+ver base
+a: var x = 3
+b: var y = 4
 stop
 end
 ";
 
-/// The exit of a line of the first version of the first function, where it mentions the first two variables alone.
-fn exit_of(program: &Program, place: usize) -> Option<&Exit>
-    ensures named { IfSome result (λ exit. AllByRecursion (IsNamed program.now.functions []) (continuations exit.now)) }
-    ensures values { IfSome result (λ exit. AllByRecursion (λ x. x.0 < 2) (variables_of_each (exit_values exit.now))) }
+fn label_of(alloc: Global, name: u8) -> Result<Label, AllocError>
+    ensures { IfOk result (λ label. label ≡ name ∷ []) }
 {
-    // What this ensures is all that holds of every program.
-    let _ = program.main();
-    let version = program.function(FunId(0))?.versions.get(0)?;
-    let count = version.body.variables().len();
-    match &version.body.lines().get(place)?.instr {
-        Instr::Assume(_, exit) if count == 2 => Some(exit),
-        _ => None,
-    }
+    Ok(Label::from_bytes(vec![in alloc; name]?))
 }
 
-/// The frames that the exit of a line makes of a frame in which `x` is 3 and `y` is 4.
-fn left(alloc: Global, program: &Program, place: usize) -> Result<Option<Vec<Frame>>, LeaveStop> {
-    let Some(exit) = exit_of(program, place) else {
-        return Ok(None);
+/// Whether the first version of the first function has the line `a`, and two variables.
+fn has_start(program: &Program, start: &Label) -> bool
+    requires { start.now ≡ main_start }
+    ensures { IsTrue result → HasStart program.now.functions }
+{
+    let Some(function) = program.function(FunId(0)) else {
+        return false;
     };
+    let Some(version) = function.versions.get(0) else {
+        return false;
+    };
+    let Some(_place) = version.body.place(start) else {
+        return false;
+    };
+    version.body.variables().len() == 2
+}
+
+fn start(alloc: Global) -> Result<Target, AllocError>
+    ensures { IfOk result (λ target. target ≡ main_target) }
+{
+    Ok(Target {
+        code: Code::Text(FunId(0), 0),
+        label: label_of(alloc, b'a')?,
+    })
+}
+
+fn bind(alloc: Global, name: VarId, value: Expr) -> Result<List<Bind>, AllocError>
+    ensures { IfOk result (λ binds. binds ≡ record { name = name; value = value } ∷ []) }
+{
+    Ok(List::from_vec(vec![in alloc; Bind { name, value }]?))
+}
+
+fn extra(alloc: Global, waits: VarId, name: VarId, value: Expr) -> Result<Extra, AllocError>
+    ensures { IfOk result (λ extra. extra ≡ main_extra waits name value) }
+{
+    Ok(Extra {
+        target: start(alloc)?,
+        result: waits,
+        map: bind(alloc, name, value)?,
+    })
+}
+
+/// An exit to `a` with two further frames there.
+fn exit_of(alloc: Global, first: Expr, second: Expr, third: Expr) -> Result<Exit, AllocError>
+    ensures { IfOk result (λ exit. exit ≡ main_exit first second third) }
+{
+    let next = extra(alloc, X, Y, second)?;
+    let last = extra(alloc, Y, X, third)?;
+    Ok(Exit {
+        target: start(alloc)?,
+        map: bind(alloc, Y, first)?,
+        extras: List::from_vec(vec![in alloc; next, last]?),
+    })
+}
+
+/// A row in which `x` is 3 and `y` is 4.
+fn row(alloc: Global) -> Result<Env, AllocError>
+    ensures { IfOk result (λ env. scope_of env ≡ true ∷ true ∷ []) }
+{
     let mut env = Env::new(alloc);
     env.push(Value::Plain(Literal::Number(3)))?;
     env.push(Value::Plain(Literal::Number(4)))?;
-    let code = FrameCode::Text(FunId(0), 0);
-    let frame = Frame::new(code, Label::automatic(alloc, 2)?, env, None);
-    Ok(Some(leave(alloc, program, &frame, &Heap::new(alloc), exit)?))
+    Ok(env)
 }
 
-/// What is looked at in a frame: its code, whether it is at `two`, the values of `y` and of `x` in the other
-/// version, and the variable that waits.
+/// What comes of leaving a frame in which `x` is 3 and `y` is 4 by an exit with these values.
+fn left(
+    alloc: Global,
+    program: &Program,
+    first: Expr,
+    second: Expr,
+    third: Expr,
+) -> Result<Vec<Frame>, LeaveStop>
+    requires start { HasStart program.now.functions }
+    requires first { IsOfTwo first }
+    requires second { IsOfTwo second }
+    requires third { IsOfTwo third }
+{
+    let label = label_of(alloc, b'b')?;
+    let frame = Frame::new(FrameCode::Text(FunId(0), 0), label, row(alloc)?, None);
+    let exit = exit_of(alloc, first, second, third)?;
+    leave(alloc, program, &frame, &Heap::new(alloc), &exit)
+}
+
+/// What is looked at in a frame: its code, whether it is at `a`, the values of its two variables, and the variable
+/// that waits.
 type Landed = (FrameCode, bool, Option<Value>, Option<Value>, Option<VarId>);
 
 fn parts(frame: &Frame) -> Landed {
-    let is_second = frame.label().as_bytes() == b"two".as_slice();
+    let is_first = frame.label().as_bytes() == b"a".as_slice();
     let env = frame.env();
     (
         *frame.code(),
-        is_second,
-        env.get(VarId(0)),
-        env.get(VarId(1)),
+        is_first,
+        env.get(X),
+        env.get(Y),
         frame.waits(),
     )
 }
 
-/// One of the frames that the exit of a line makes, if there is that one.
-fn frame_of(
-    alloc: Global,
-    program: &Program,
-    place: usize,
-    number: usize,
-) -> Result<Option<Landed>, LeaveStop> {
-    match left(alloc, program, place)? {
-        Some(frames) => Ok(frames.get(number).map(parts)),
-        None => Ok(None),
+/// The frames that an exit makes whose values are `x + y`, `y` and `nil`.
+fn landed(alloc: Global, program: &Program) -> Result<Vec<Landed>, Fail>
+    requires { HasStart program.now.functions }
+{
+    let sum = Expr::Binary(Op::Add, Simple::Var(X), Simple::Var(Y));
+    let y = Expr::Plain(Simple::Var(Y));
+    let nil = Expr::Plain(Simple::Lit(Literal::Nil));
+    let frames = left(alloc, program, sum, y, nil)?;
+    let mut landed = Vec::new(alloc);
+    for frame in frames.as_slice() {
+        landed.push(parts(frame))?;
     }
+    Ok(landed)
+}
+
+/// What comes of an exit whose values are `y`, `!y` and `y`.
+fn stop(alloc: Global, program: &Program) -> Option<LeaveStop>
+    requires { HasStart program.now.functions }
+{
+    let y = Expr::Plain(Simple::Var(Y));
+    let wrong = Expr::Not(Simple::Var(Y));
+    left(alloc, program, y, wrong, y).err()
 }
 
 #[test]
 fn makes_the_frames_of_an_exit(rt: HostRuntime) -> Result<(), Fail> {
-    let number = |n: i64| Some(Value::Plain(Literal::Number(n)));
+    let job = job_of(rt.alloc(), TEXT)?;
+    assert!(rt; has_start(&job.program, &label_of(rt.alloc(), b'a')?));
+    let code = FrameCode::Text(FunId(0), 0);
+    let seven = Some(Value::Plain(Literal::Number(7)));
+    let four = Some(Value::Plain(Literal::Number(4)));
     let nil = Some(Value::Plain(Literal::Nil));
-    let code = FrameCode::Text(FunId(0), 1);
-    for (place, frame, expected) in [
-        (2, 0, Ok(Some((code, false, number(7), None, None)))),
-        (
-            2,
-            1,
-            Ok(Some((code, true, number(4), None, Some(VarId(1))))),
-        ),
-        (2, 2, Ok(Some((code, true, None, nil, Some(VarId(0)))))),
-        (2, 3, Ok(None)),
-        (3, 0, Err(LeaveStop::Trap(Trap::BadType))),
-        (4, 0, Ok(None)),
-    ] {
-        let alloc = rt.alloc();
-        let found = seen(
-            alloc,
-            TEXT,
-            |job| frame_of(alloc, &job.program, place, frame),
-        )?;
-        assert!(rt; found == expected, "frame {frame} of line {place}");
-    }
+    assert!(rt;
+        landed(rt.alloc(), &job.program)?.as_slice()
+            == [
+                (code, true, None, seven, None),
+                (code, true, None, four, Some(X)),
+                (code, true, nil, None, Some(Y)),
+            ]
+            .as_slice()
+    );
+    assert!(rt; stop(rt.alloc(), &job.program) == Some(LeaveStop::Trap(Trap::BadType)));
     Ok(())
 }

@@ -1,7 +1,5 @@
 //! Jobs, each from its text.
 
-ghost use Rattle.std.specs.Prelude.{IsAlwaysCallable};
-
 use sour_reader::read_job;
 use sour_scope::check;
 use sour_syntax::Job;

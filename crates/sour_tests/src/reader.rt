@@ -1,9 +1,11 @@
 //! Texts as they are written.
 
-use sour_raw::{RawExpr, RawInstr, RawJob, RawLiteral, RawSimple};
+use sour_raw::{
+    RawExpr, RawFunction, RawInstr, RawJob, RawLine, RawLiteral, RawSimple, RawVersion,
+};
 use sour_reader::{TextFault, read_job};
-use sour_syntax::Op;
-use std::alloc::Global;
+use sour_syntax::{Label, Op};
+use std::alloc::{AllocError, Global};
 
 /// How many functions, jobs of a plan and inputs a text has.
 fn counts(alloc: Global, text: &[u8]) -> Result<[usize; 3], TextFault> {
@@ -36,52 +38,60 @@ fn reads_texts_of_the_form_alone(rt: HostRuntime) {
     }
 }
 
-/// The names of the first function, of its second parameter, of its first version, of the label there,
-/// and of what is assigned there, with the number and the name that are added.
-fn names(job: &RawJob) -> Option<([&[u8]; 6], i64)> {
+/// The first function of a job, its first version and the first line there.
+fn first_line(job: &RawJob) -> Option<(&RawFunction, &RawVersion, &RawLine)> {
     let function = job.functions.get(0)?;
-    let parameter = function.parameters.get(1)?;
     let version = function.versions.get(0)?;
-    let line = version.lines.get(0)?;
-    let Some(label) = &line.label else {
-        return None;
-    };
-    let RawInstr::Assign(
-        x,
-        RawExpr::Binary(Op::Add, RawSimple::Lit(RawLiteral::Number(n)), RawSimple::Name(y)),
-    ) = &line.instr
-    else {
-        return None;
-    };
-    let names = [
-        function.name.as_bytes(),
-        parameter.as_bytes(),
-        version.name.as_bytes(),
-        label.as_bytes(),
-        x.as_bytes(),
-        y.as_bytes(),
-    ];
-    Some((names, *n))
+    Some((function, version, version.lines.get(0)?))
 }
 
-/// Whether these are the names and the number of a job.
-fn has_names(job: &RawJob, expected: [&str; 6], number: i64) -> bool {
-    match names(job) {
-        Some((found, n)) => {
-            n == number
-                && found
-                    .iter()
-                    .zip(&expected)
-                    .all(|(name, text)| *name == text.as_bytes())
-        }
-        None => false,
+/// What a line assigns, where that is a number and a variable added: the variable that gets it, the other one, and the number.
+fn added(line: &RawLine) -> Option<(&Label, &Label, i64)> {
+    match &line.instr {
+        RawInstr::Assign(
+            x,
+            RawExpr::Binary(Op::Add, RawSimple::Lit(RawLiteral::Number(n)), RawSimple::Name(y)),
+        ) => Some((x, y, *n)),
+        _ => None,
     }
 }
 
-/// The same of the job that a text spells.
-fn spells(alloc: Global, text: &str, expected: [&str; 6], number: i64) -> Result<bool, TextFault> {
+/// Puts a name and a blank behind names.
+fn put(names: &mut Vec<u8>, name: &Label) -> Result<(), AllocError> {
+    names.extend_from_slice(name.as_bytes())?;
+    Ok(names.push(b' ')?)
+}
+
+/// Puts the names of the first function, of its second parameter, of its first version, of the label there, and of what is
+/// added and assigned there; gives the number that is added.
+fn put_names(names: &mut Vec<u8>, job: &RawJob) -> Result<Option<i64>, AllocError> {
+    let Some((function, version, line)) = first_line(job) else {
+        return Ok(None);
+    };
+    let Some(parameter) = function.parameters.get(1) else {
+        return Ok(None);
+    };
+    let Some(label) = &line.label else {
+        return Ok(None);
+    };
+    let Some((x, y, n)) = added(line) else {
+        return Ok(None);
+    };
+    put(names, &function.name)?;
+    put(names, parameter)?;
+    put(names, &version.name)?;
+    put(names, label)?;
+    put(names, x)?;
+    put(names, y)?;
+    Ok(Some(n))
+}
+
+/// Whether these are the names and the number of the job that a text spells.
+fn spells(alloc: Global, text: &str, expected: &str, number: i64) -> Result<bool, TextFault> {
     let job = read_job(alloc, text.as_bytes())?;
-    Ok(has_names(&job, expected, number))
+    let mut names = Vec::new(alloc);
+    let found = put_names(&mut names, &job)?;
+    Ok(found == Some(number) && names.as_slice() == expected.as_bytes())
 }
 
 #[test]
@@ -89,12 +99,12 @@ fn keeps_what_is_written(rt: HostRuntime) {
     for (text, names, number) in [
         (
             "fun f(a, b)\nver v\nl: c <- -12 + d\nend\n",
-            ["f", "b", "v", "l", "c", "d"],
+            "f b v l c d ",
             -12,
         ),
         (
             "fun b(b,a)#\n\nver b\n b : b<-7+b # c\nend",
-            ["b", "a", "b", "b", "b", "b"],
+            "b a b b b b ",
             7,
         ),
     ] {
