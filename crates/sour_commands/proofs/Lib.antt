@@ -1,3 +1,4 @@
+pub mod DigitLemmas
 pub mod BlockLemmas
 pub mod TextLemmas
 pub mod ShowLemmas

@@ -7,7 +7,7 @@ use Rattle.std.specs.Option.{SomeIff}
 use Rattle.std.specs.Str.Parse.{AllDigits, digits_value}
 use Rattle.std.proofs.lemmas.Str.Parse.{digits_value_short, numerals_by_value, tells_digits}
 use Rattle.sour_tokens.specs.Token.{IsDigits}
-use Rattle.sour_raw.proofs.Digits.{AllDigits-from_token}
+use Rattle.sour_commands.proofs.DigitLemmas.{AllDigits-from_token}
 use Rattle.sour_commands.specs.Answer.{WritesNumber, IsBudget, AskForRun}
 
 -- eight digits write a number of less than 64 bits

@@ -1,5 +1,5 @@
 -- What the program answers, and when.
-use Rattle.std.specs.Prelude.{◌≡◌, ◌<◌, ◌≤◌, ◌⊎◌, ℕ, List, [], ◌∷◌, IfSome, length, codes}
+use Rattle.std.specs.Prelude.{◌≡◌, ◌<◌, ◌≤◌, ◌⊎◌, ℕ, List, [], ◌∷◌, ◌++◌, IfSome, length, codes, decimal}
 use Rattle.std.specs.Str.Parse.{digits_value}
 use Rattle.std.specs.Io.KnownBytes.{Appends}
 use Rattle.sour_ports.specs.Cause.{HasCause}
@@ -9,7 +9,7 @@ use Rattle.sour_syntax.specs.declared.plan.PlanJob.{PlanJob}
 use Rattle.sour_syntax.specs.Program.{ProgramView}
 use Rattle.sour_semantics.specs.Block.{BlockEnd, RunShowsAll}
 use Rattle.sour_raw.specs.declared.raw.RawJob.{RawJob}
-use Rattle.sour_raw.specs.Job.{Reads}
+use Rattle.sour_raw.specs.Reads.{Reads, IsFirstFault}
 use Rattle.sour_scope.specs.Checked.{IsChecked}
 use Rattle.sour_tokens.specs.Token.{IsDigits}
 use Rattle.sour_commands.specs.Ports.{SourceMoves, SinkMoves}
@@ -20,7 +20,8 @@ pub data Answer : Type 0 where
   unknown_words : Answer
   source_failed : Answer
   text_too_long : Answer
-  text_unplaced : Answer
+  -- the first fault of the text has this number and stands here, counted from 1
+  text_fault : (kind line column : ℕ) → Answer
   scope_unplaced : Answer
   -- memory was wanting before the first block
   memory_wanting : Answer
@@ -32,7 +33,8 @@ abbrev pub text_of : Answer → List ℕ
 text_of unknown_words = codes "fault words\n"
 text_of source_failed = codes "fault read\n"
 text_of text_too_long = codes "fault text 5 line 0 column 0\n"
-text_of text_unplaced = codes "fault text 3 line 0 column 0\n"
+text_of (text_fault kind line column) =
+    codes "fault text " ++ decimal kind ++ codes " line " ++ decimal line ++ codes " column " ++ decimal column ++ 10 ∷ []
 text_of scope_unplaced = codes "fault scope 0 line 0\n"
 text_of memory_wanting = codes "fault memory\n"
 text_of (blocks ends bytes) = bytes
@@ -42,7 +44,7 @@ abbrev pub status_of : Answer → ℕ
 status_of unknown_words = 2
 status_of source_failed = 4
 status_of text_too_long = 3
-status_of text_unplaced = 3
+status_of (text_fault kind line column) = 3
 status_of scope_unplaced = 3
 status_of memory_wanting = 6
 status_of (blocks ends bytes) = status_of_blocks ends
@@ -50,10 +52,6 @@ status_of (blocks ends bytes) = status_of_blocks ends
 -- the most bytes of a text
 abbrev pub text_limit : ℕ
 text_limit = 1048576
-
--- the text doesn't read as a job
-abbrev pub ReadsAsNone : List ℕ → Type 0
-ReadsAsNone bytes = (raw : RawJob) → Reads bytes raw → ⊥
 
 -- the text reads as a job, whose names or scopes are wrong
 abbrev pub ReadsAsRefused : List ℕ → Type 0
@@ -79,8 +77,8 @@ abbrev pub IsDueByRun : ℕ → SourceMoves → Answer → Type 0
 IsDueByRun budget source unknown_words = ⊥
 IsDueByRun budget source source_failed = HasCause source.faults_before source.faults_after
 IsDueByRun budget source text_too_long = IfSome source.left (λ bytes. text_limit < length bytes)
-IsDueByRun budget source text_unplaced =
-    IfSome source.left (λ bytes. (length bytes ≤ text_limit) × ReadsAsNone bytes)
+IsDueByRun budget source (text_fault kind line column) =
+    IfSome source.left (λ bytes. (length bytes ≤ text_limit) × IsFirstFault bytes kind line column)
 IsDueByRun budget source scope_unplaced =
     IfSome source.left (λ bytes. (length bytes ≤ text_limit) × ReadsAsRefused bytes)
 IsDueByRun budget source memory_wanting = Unit {0}

@@ -1,28 +1,15 @@
 ghost use Rattle.std.specs.Prelude.{◌≡◌, ◌+◌, ◌≤◌, ◌∷◌, [], ◌++◌, length, codes, decimal, OnOk, OnErr};
 ghost use Rattle.std.specs.Io.KnownBytes.{Appends};
-ghost use Rattle.arrayvec.specs.ArrayVec.{array_vec_len};
 ghost use Rattle.sour_ports.specs.Cause.{HasCause};
 ghost use Rattle.sour_ports.specs.Told.{AppendsFront};
 ghost use Rattle.sour_syntax.specs.Trap.{trap_number};
 ghost use Rattle.sour_commands.specs.Report.{end_line, report_block};
 
-use arrayvec::ArrayVec;
+use crate::line::{ShortLine, put};
 use itoa::Buffer;
 use sour_machine::{End, Report, value_head, value_middle, value_tail};
 use sour_ports::{Failed, Sink, write_all};
 use sour_syntax::{Program, Trap, Value};
-
-/// Room for a short line.
-type ShortLine = ArrayVec<u8, 64>;
-
-/// Puts bytes behind those of a short line that has room for them.
-fn put(line: &mut ShortLine, bytes: &[u8])
-    requires { array_vec_len line.old + length bytes.now ≤ 64 }
-    ensures bytes { line.new.items ≡ line.old.items ++ bytes.now }
-    ensures len { array_vec_len line.new ≡ array_vec_len line.old + length bytes.now }
-{
-    line.try_extend_from_slice(bytes).unwrap();
-}
 
 /// Writes the first line of a block: the number of its input.
 fn write_head<K: Sink>(sink: &mut K, number: u64) -> Result<(), Failed>

@@ -1,7 +1,9 @@
 ghost use Rattle.std.specs.Prelude.{◌≡◌};
-ghost use Rattle.sour_commands.specs.Answer.{text_of, status_of, IsGiven};
+ghost use Rattle.sour_commands.specs.Answer.{text_fault, text_of, status_of, IsGiven};
 ghost use Rattle.sour_commands.specs.Fault.{answer_of};
 
+use crate::line::{ShortLine, put};
+use itoa::Buffer;
 use sour_ports::{Sink, write_all};
 
 /// The status where the sink failed.
@@ -16,8 +18,15 @@ pub enum Fault {
     Read,
     /// The text has more bytes than a text may have.
     TextTooLong,
-    /// The text doesn't read as a job.
-    TextUnplaced,
+    /// The text doesn't read as a job: its first fault.
+    Text {
+        /// The number of the fault, as `sour_reader` tells it.
+        kind: u32,
+        /// Its line, counted from 1.
+        line: u64,
+        /// Its column in bytes, counted from 1.
+        column: u64,
+    },
     /// The names or the scopes of the text are wrong.
     ScopeUnplaced,
     /// Memory was wanting before the first block.
@@ -26,17 +35,19 @@ pub enum Fault {
 
 impl Fault {
     /// The line that is written.
-    fn text(self) -> &'static [u8]
-        ensures { result.now ≡ text_of (answer_of self) }
+    fn line(self) -> ShortLine
+        ensures { result.items ≡ text_of (answer_of self) }
     {
+        let mut written = ShortLine::new();
         match self {
-            Fault::Words => b"fault words\n",
-            Fault::Read => b"fault read\n",
-            Fault::TextTooLong => b"fault text 5 line 0 column 0\n",
-            Fault::TextUnplaced => b"fault text 3 line 0 column 0\n",
-            Fault::ScopeUnplaced => b"fault scope 0 line 0\n",
-            Fault::Memory => b"fault memory\n",
+            Fault::Words => put(&mut written, b"fault words\n"),
+            Fault::Read => put(&mut written, b"fault read\n"),
+            Fault::TextTooLong => put(&mut written, b"fault text 5 line 0 column 0\n"),
+            Fault::Text { kind, line, column } => return text_line(kind, line, column),
+            Fault::ScopeUnplaced => put(&mut written, b"fault scope 0 line 0\n"),
+            Fault::Memory => put(&mut written, b"fault memory\n"),
         }
+        written
     }
 
     /// The status where the line was written.
@@ -45,11 +56,27 @@ impl Fault {
     {
         match self {
             Fault::Words => 2,
-            Fault::TextTooLong | Fault::TextUnplaced | Fault::ScopeUnplaced => 3,
+            Fault::TextTooLong | Fault::Text { .. } | Fault::ScopeUnplaced => 3,
             Fault::Read => 4,
             Fault::Memory => 6,
         }
     }
+}
+
+/// The line of the first fault of a text.
+fn text_line(kind: u32, line: u64, column: u64) -> ShortLine
+    ensures { result.items ≡ text_of (text_fault kind line column) }
+{
+    let mut digits = Buffer::new();
+    let mut written = ShortLine::new();
+    put(&mut written, b"fault text ");
+    put(&mut written, digits.format(kind).as_bytes());
+    put(&mut written, b" line ");
+    put(&mut written, digits.format(line).as_bytes());
+    put(&mut written, b" column ");
+    put(&mut written, digits.format(column).as_bytes());
+    put(&mut written, b"\n");
+    written
 }
 
 /// Writes the line of a fault, and gives the status.
@@ -61,7 +88,7 @@ pub fn write_fault<K: Sink>(sink: &mut K, fault: Fault) -> u8
       faults_after = K.faults sink.new;
     }) result }
 {
-    match write_all(sink, fault.text()) {
+    match write_all(sink, fault.line().as_slice()) {
         Ok(()) => fault.status(),
         Err(_) => SINK_FAILED,
     }

@@ -6,6 +6,7 @@
 mod blocks;
 mod budget;
 mod fault;
+mod line;
 mod program;
 mod run;
 mod serving;

@@ -31,7 +31,9 @@ fn accept<S: Source>(alloc: Global, source: &mut S) -> Result<Job, Fault>
     };
     let raw = match read_job(alloc, bytes.as_slice()) {
         Ok(raw) => raw,
-        Err(TextFault::Unplaced) => return Err(Fault::TextUnplaced),
+        Err(TextFault::At { kind, line, column }) => {
+            return Err(Fault::Text { kind, line, column });
+        }
         Err(TextFault::Memory) => return Err(Fault::Memory),
     };
     match check(alloc, raw) {

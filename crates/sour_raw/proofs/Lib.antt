@@ -1,4 +1,1 @@
-pub mod Digits
-pub mod Labels
 pub mod MentionLaws
-pub mod ExitMentionLaws

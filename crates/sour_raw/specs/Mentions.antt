@@ -1,5 +1,5 @@
--- The variables of a version: its parameters, and then the other names that it mentions, in the order of their first mention.
-use Rattle.std.specs.Prelude.{◌≡◌, ◌<◌, ◌⊎◌, ℕ, List, [], ◌∷◌, ◌++◌, length, if◌then◌else◌}
+-- The variables of a version: its parameters, and then the other names that it mentions, by their first mention.
+use Rattle.std.specs.Prelude.{ℕ, List, [], ◌∷◌, ◌++◌, if◌then◌else◌}
 use Rattle.std.specs.List.{list_any}
 use Rattle.std.specs.Str.{bytes_eq}
 use Rattle.sour_raw.specs.declared.raw.RawSimple.{RawSimple}
@@ -69,7 +69,7 @@ instr_names (Return e) = expr_names e
 instr_names Stop = []
 instr_names (Assume predicates exit) = each_names predicates ++ exit_names exit
 
--- a name is put behind the others where it isn't among them
+-- a name is put after the others where it isn't among them
 abbrev pub with_name : List (List ℕ) → List ℕ → List (List ℕ)
 with_name names name = if list_any (bytes_eq name) names then names else names ++ name ∷ []
 
@@ -78,7 +78,7 @@ abbrev pub with_names : List (List ℕ) → List (List ℕ) → List (List ℕ)
 with_names names [] = names
 with_names names (name ∷ others) = with_names (with_name names name) others
 
--- the names that lines mention are put behind the others
+-- the names that lines mention are put after the others
 abbrev pub with_lines : List (List ℕ) → List RawLine → List (List ℕ)
 with_lines names [] = names
 with_lines names (line ∷ lines) = with_lines (with_names names (instr_names line.instr)) lines
@@ -86,7 +86,3 @@ with_lines names (line ∷ lines) = with_lines (with_names names (instr_names li
 -- the variables of a version with these parameters and these lines
 abbrev pub variables_of : List (List ℕ) → List RawLine → List (List ℕ)
 variables_of parameters lines = with_lines (with_names [] parameters) lines
-
--- the names are these, or both are more than a version may have
-abbrev pub AreOrBothMany : List (List ℕ) → List (List ℕ) → Type 0
-AreOrBothMany names all = (names ≡ all) ⊎ ((1024 < length names) × (1024 < length all))

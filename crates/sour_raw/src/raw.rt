@@ -70,7 +70,7 @@ pub struct RawExtra {
     pub map: List<RawBind>,
 }
 
-/// A place to go on at, the values of the variables there, and what is gone on with behind it.
+/// A place to go on at, the values of the variables there, and the frames below.
 #[derive(Drop)]
 pub struct RawExit {
     /// Where the run goes on.
@@ -117,6 +117,8 @@ pub enum RawInstr {
 /// An instruction with the label that is written before it, if one is.
 #[derive(Drop)]
 pub struct RawLine {
+    /// The line of its first token, counted from 1.
+    pub line: u64,
     /// The label that is written before the instruction.
     pub label: Option<Label>,
     /// The instruction.
@@ -126,6 +128,8 @@ pub struct RawLine {
 /// A version of a function.
 #[derive(Drop)]
 pub struct RawVersion {
+    /// The line of its first token, counted from 1.
+    pub line: u64,
     /// The name of the version.
     pub name: Label,
     /// Its lines in their order.
@@ -135,6 +139,8 @@ pub struct RawVersion {
 /// A function with its versions.
 #[derive(Drop)]
 pub struct RawFunction {
+    /// The line of its first token, counted from 1.
+    pub line: u64,
     /// The name of the function.
     pub name: Label,
     /// The names of its parameters.
@@ -146,6 +152,8 @@ pub struct RawFunction {
 /// The values of an input.
 #[derive(Drop)]
 pub struct RawInput {
+    /// The line of its first token, counted from 1.
+    pub line: u64,
     /// The values in their order.
     pub values: List<RawLiteral>,
 }
@@ -164,7 +172,7 @@ pub enum RawPlanSimple {
 pub struct RawPredicate {
     /// The side before `==`.
     pub left: RawPlanSimple,
-    /// The side behind it.
+    /// The side after it.
     pub right: RawPlanSimple,
 }
 
@@ -179,7 +187,7 @@ pub enum RawPass {
     Unreachable,
     /// Puts the code of its callee in place of the call at the label.
     Inline(Label, Start),
-    /// Moves the anchor behind the next line.
+    /// Moves the anchor after the next line.
     Move(Label),
     /// The first anchor loses the predicate, and the second gets it.
     Hoist(Label, Label, RawPredicate),
@@ -192,6 +200,8 @@ pub enum RawPass {
 /// A job of the plan: its function, what it starts from, and its passes.
 #[derive(Drop)]
 pub struct RawPlanJob {
+    /// The line of its first token, counted from 1.
+    pub line: u64,
     /// The name of the function.
     pub function: Label,
     /// What the job starts from.

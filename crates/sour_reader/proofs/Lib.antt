@@ -1,29 +1,5 @@
--- Lemmas of the reader.
-mod Faults
-pub mod Prefixes
-pub mod Readings
-pub mod BodyLaws
-pub mod HeadingLaws
-pub mod FunctionLaws
-pub mod ValueLaws
-pub mod InputLaws
-pub mod JobLaws
-pub mod Found
-pub mod Instructions
-pub mod Labelled
-pub mod Lists
-pub mod Operands
-pub mod Expressions
-pub mod Tokens
-pub mod Commas
-pub mod Calls
-pub mod BracketLaws
-pub mod BindLaws
-pub mod ExitLaws
-pub mod ArrayLaws
-pub mod AssumeLaws
-pub mod Paths
-pub mod Separated
-pub mod NoSeparators
-pub mod PassLaws
-pub mod PlanLaws
+pub mod Reserved
+pub mod Counted
+pub mod Loop
+pub mod Whole
+pub mod FirstFault

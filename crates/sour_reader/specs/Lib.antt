@@ -1,5 +1,5 @@
-pub mod Parts
-pub mod Separators
-pub mod Fault
-pub mod Ahead
-pub mod Front
+pub mod Given
+pub mod Reserved
+pub mod Room
+pub mod Heading
+pub mod Told

@@ -1,126 +1,133 @@
-//! The inputs of a text.
+//! Inputs and their values.
 
-ghost use Rattle.std.specs.Prelude.{◌≡◌, ◌≤◌, ◌<◌, ◌↔◌, ◌∷◌, [], List as Listed, map, drop, IfSome, IfNone, Some, length, IfOk, OnOk, IsErrOf};
-ghost use Rattle.std.specs.List.{AllByRecursion};
-ghost use Rattle.sour_tokens.specs.Token.{spelling, IsOfItsKind};
-ghost use Rattle.sour_raw.specs.declared.raw.RawLiteral.{RawLiteral};
-ghost use Rattle.sour_raw.specs.declared.raw.RawInput.{RawInput};
-ghost use Rattle.sour_raw.specs.Inputs.{SpellsValues};
-ghost use Rattle.sour_reader.specs.Ahead.{ReadsAs, ReadsAsNone};
-ghost use Rattle.sour_reader.specs.Front.{IsInput, HasEachInput, HasInputs};
+ghost use Rattle.std.specs.Prelude.{◌≡◌};
+ghost use Rattle.sour_raw.specs.Combinators.{plain};
+ghost use Rattle.sour_raw.specs.Expressions.{literal_at, begins_literal};
+ghost use Rattle.sour_raw.specs.Keys.{keyword};
+ghost use Rattle.sour_raw.specs.Lexemes.{is};
+ghost use Rattle.sour_raw.specs.Plan.{values_at, input_at, each_input_at, inputs_at};
+ghost use Rattle.sour_raw.specs.Spelling.{alone};
+ghost use Rattle.sour_reader.specs.Given.{Gives};
 
-use crate::ahead::LinesAhead;
-use crate::fault::TextFault;
-use crate::heading::is_inputs_heading;
-use crate::kind::is_word;
-use crate::literal::literal_of;
-use crate::operand::operand_length;
+use crate::items::{Item, repeated, too_many};
+use crate::literals::{has_literal, literal};
+use crate::stop::Stop;
+use crate::tokens::{
+    Rest, after_line_end, after_symbol, after_word, has_symbol, has_word, next_line,
+};
+use crate::variables::Variables;
+use sour_lexer::Symbol;
 use sour_raw::{RawInput, RawLiteral};
 use sour_syntax::List;
-use sour_tokens::Token;
-use std::alloc::{AllocError, Global};
+use std::alloc::Global;
 
-/// The most inputs that a text has.
-const MAX_INPUTS: usize = 4096;
-
-/// The most values that an input has.
+/// The most values of an input.
 const MAX_VALUES: usize = 65536;
 
-/// The value that these tokens begin with, and how many of them spell it.
-fn first_value(alloc: Global, tokens: &[Token]) -> Result<Option<(RawLiteral, usize)>, AllocError>
-    requires kinds { AllByRecursion IsOfItsKind tokens.now }
-    requires some { 0 < length tokens.now }
-    ensures found { IfOk result (λ first. IfSome first (λ it. (values : Listed RawLiteral) → SpellsValues values (map spelling tokens.now)
-        ↔ ((others : Listed RawLiteral) × (values ≡ it.0 ∷ others) × SpellsValues others (map spelling (drop it.1 tokens.now))))) }
-    ensures count { IfOk result (λ first. IfSome first (λ it. (0 < it.1) × (it.1 ≤ length tokens.now))) }
-    ensures none { IfOk result (λ first. IfNone first ((values : Listed RawLiteral) → SpellsValues values (map spelling tokens.now) → ⊥)) }
-{
-    let count = operand_length(tokens);
-    if tokens.len() < count {
-        return Ok(None);
+/// The most inputs.
+const MAX_INPUTS: usize = 4096;
+
+/// Values side by side.
+struct EachValue;
+
+impl Item for EachValue {
+    type Out = RawLiteral;
+
+    ghost items = { λ _. plain begins_literal (λ names. literal_at) alone };
+
+    fn comes(&self, tokens: Rest<'_>) -> bool {
+        has_literal(tokens)
     }
-    match literal_of(alloc, &tokens[..count])? {
-        Some(value) => Ok(Some((value, count))),
-        None => Ok(None),
+
+    fn read<'a>(
+        &self,
+        alloc: Global,
+        _variables: &mut Variables,
+        tokens: Rest<'a>,
+    ) -> Result<(RawLiteral, Rest<'a>), Stop<'a>> {
+        literal(alloc, tokens)
+    }
+
+    fn refuse<'a>(&self, alloc: Global, _variables: &mut Variables, tokens: Rest<'a>) -> Stop<'a> {
+        let read = literal(alloc, tokens);
+        too_many(tokens, read)
     }
 }
 
-/// The values that these tokens spell.
-fn values_of(alloc: Global, tokens: &[Token]) -> Result<Option<List<RawLiteral>>, AllocError>
-    requires { AllByRecursion IsOfItsKind tokens.now }
-    ensures { IfOk result (λ found. (values : Listed RawLiteral) →
-        (SpellsValues values (map spelling tokens.now) × (length values ≤ 65536)) ↔ (found ≡ Some values)) }
+/// The values of an input.
+#[tactic(auto, unfolding(sour_raw::specs::Plan::values_at))]
+fn values<'a>(alloc: Global, tokens: Rest<'a>) -> Result<(List<RawLiteral>, Rest<'a>), Stop<'a>>
+    ensures { Gives result values_at tokens.now }
 {
-    let mut values = List::new(alloc);
-    let mut place = 0;
-    while place < tokens.len() {
-        if values.len() >= MAX_VALUES {
-            return Ok(None);
-        }
-        let Some((value, count)) = first_value(alloc, &tokens[place..])? else {
-            return Ok(None);
-        };
-        values.push(value)?;
-        place += count;
-    }
-    Ok(Some(values))
+    let mut no_names = Variables::new(alloc);
+    repeated(alloc, &EachValue, Some(MAX_VALUES), &mut no_names, tokens)
 }
 
-/// The input that these tokens spell.
-fn input_of(alloc: Global, tokens: &[Token]) -> Result<Option<RawInput>, AllocError>
-    requires { AllByRecursion IsOfItsKind tokens.now }
-    ensures { IfOk result (λ found. (input : RawInput) → IsInput input (map spelling tokens.now) ↔ (found ≡ Some input)) }
+/// An input.
+#[tactic(auto, unfolding(sour_raw::specs::Plan::input_at))]
+fn input<'a>(alloc: Global, tokens: Rest<'a>) -> Result<(RawInput, Rest<'a>), Stop<'a>>
+    ensures { Gives result input_at tokens.now }
 {
-    let Some((word, rest)) = tokens.split_first() else {
-        return Ok(None);
-    };
-    if !is_word(word, b"input") {
-        return Ok(None);
+    let line = next_line(tokens);
+    let rest = after_word(tokens, b"input")?;
+    let (values, rest) = values(alloc, rest)?;
+    let rest = after_line_end(rest)?;
+    Ok((RawInput { line, values }, rest))
+}
+
+/// Inputs one after the other.
+struct EachInput;
+
+impl Item for EachInput {
+    type Out = RawInput;
+
+    ghost items = { λ _. plain (is (keyword "input")) (λ names. input_at) alone };
+
+    fn comes(&self, tokens: Rest<'_>) -> bool {
+        has_word(tokens, b"input")
     }
-    match values_of(alloc, rest)? {
-        Some(values) => Ok(Some(RawInput { values })),
-        None => Ok(None),
+
+    fn read<'a>(
+        &self,
+        alloc: Global,
+        _variables: &mut Variables,
+        tokens: Rest<'a>,
+    ) -> Result<(RawInput, Rest<'a>), Stop<'a>> {
+        input(alloc, tokens)
+    }
+
+    fn refuse<'a>(&self, alloc: Global, _variables: &mut Variables, tokens: Rest<'a>) -> Stop<'a> {
+        let read = input(alloc, tokens);
+        too_many(tokens, read)
     }
 }
 
-/// The inputs, one a line, up to the end of the text.
-fn read_each_input<'a>(
+/// Inputs as long as another comes.
+#[tactic(auto, unfolding(sour_raw::specs::Plan::each_input_at))]
+pub(crate) fn each_input<'a>(
     alloc: Global,
-    ahead: &mut LinesAhead<'a>,
-) -> Result<List<RawInput>, TextFault>
-    ensures found { IfOk result (ReadsAs HasEachInput ahead.old ahead.new) }
-    ensures ended { OnOk result (ahead.new.next ≡ []) }
-    ensures unplaced { IsErrOf result TextFault.Unplaced → ReadsAsNone HasEachInput ahead.old }
+    tokens: Rest<'a>,
+) -> Result<(List<RawInput>, Rest<'a>), Stop<'a>>
+    ensures { Gives result each_input_at tokens.now }
 {
-    let mut inputs = List::new(alloc);
-    while !ahead.is_at_end() {
-        if inputs.len() >= MAX_INPUTS {
-            return Err(TextFault::Unplaced);
-        }
-        let Some(input) = input_of(alloc, ahead.tokens())? else {
-            return Err(TextFault::Unplaced);
-        };
-        inputs.push(input)?;
-        ahead.advance()?;
-    }
-    Ok(inputs)
+    let mut no_names = Variables::new(alloc);
+    repeated(alloc, &EachInput, Some(MAX_INPUTS), &mut no_names, tokens)
 }
 
-/// The inputs of the text, with their heading, where the text isn't at its end.
-pub(crate) fn read_inputs<'a>(
+/// The inputs after a plan, or none.
+#[tactic(auto, unfolding(sour_raw::specs::Plan::inputs_at))]
+pub(crate) fn inputs<'a>(
     alloc: Global,
-    ahead: &mut LinesAhead<'a>,
-) -> Result<List<RawInput>, TextFault>
-    ensures found { IfOk result (ReadsAs HasInputs ahead.old ahead.new) }
-    ensures ended { OnOk result (ahead.new.next ≡ []) }
-    ensures unplaced { IsErrOf result TextFault.Unplaced → ReadsAsNone HasInputs ahead.old }
+    tokens: Rest<'a>,
+) -> Result<(List<RawInput>, Rest<'a>), Stop<'a>>
+    ensures { Gives result inputs_at tokens.now }
 {
-    if ahead.is_at_end() {
-        return Ok(List::new(alloc));
+    if has_symbol(tokens, Symbol::Percent) {
+        let rest = after_symbol(tokens, Symbol::Percent)?;
+        let rest = after_word(rest, b"inputs")?;
+        let rest = after_line_end(rest)?;
+        each_input(alloc, rest)
+    } else {
+        Ok((List::new(alloc), tokens))
     }
-    if !is_inputs_heading(ahead.tokens()) {
-        return Err(TextFault::Unplaced);
-    }
-    ahead.advance()?;
-    read_each_input(alloc, ahead)
 }

@@ -1,44 +1,29 @@
-//! The reader: it gives the raw job that the bytes of a text spell by the definitions of `sour_raw`, or
-//! the fault if they spell none. It takes one line of tokens after another from the bytes, and makes
-//! operands, expressions, instructions and the rest of slices of its tokens.
+//! The reader: it makes a raw job of the bytes of a text, or tells their first fault. `sour_lexer` splits
+//! the bytes into tokens. Each function here reads one production of the grammar from the front of the tokens,
+//! and gives what the reading of that production in `sour_raw` gives.
 //!
 //! Whether the names are known and where variables are in scope isn't looked at here.
 #![tactic(auto)]
 
-mod ahead;
-mod array_instruction;
-mod assume;
-mod bracket;
-mod call;
-mod exit;
-mod exit_mentions;
-mod exit_split;
-mod expression;
-mod expression_list;
+mod exits;
+mod expressions;
 mod fault;
-mod function;
-mod heading;
+mod functions;
 mod inputs;
-mod instruction;
+mod instructions;
+mod items;
 mod job;
-mod kind;
-mod label;
-mod limits;
-mod line;
-mod literal;
-mod map;
-mod mentions;
-mod name;
-mod operand;
-mod operator;
-mod pass;
-mod path;
-mod place;
+mod lines;
+mod literals;
+mod passes;
+mod paths;
 mod plan;
-mod predicate;
-mod separator;
-mod setting;
-mod version;
+mod predicates;
+mod sections;
+mod stop;
+mod tokens;
+mod variables;
+mod words;
 
 pub use fault::TextFault;
 pub use job::read_job;

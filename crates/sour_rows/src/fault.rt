@@ -14,6 +14,8 @@ pub enum NoRow {
     BadStatus,
     #[error("line {line} {fault}")]
     Line { line: usize, fault: LineFault },
+    #[error("no line begins a row of the table")]
+    NoRows,
     #[error("no line gives its status")]
     NoStatus,
     #[error("no line begins its text")]

@@ -3,28 +3,27 @@
 use crate::answer::Answer;
 use crate::fault::NoRow;
 use crate::format::row_of;
-use crate::group::{Form, Found};
 use crate::number::status_of;
 use crate::part::without_feed;
 use crate::row::{Failing, Ports, Row};
+use crate::table::{TableRow, rows_of};
 use std::fs;
 use std::io::ErrorKind;
 
-/// Reads a row of a group.
-pub fn read(rt: &HostRuntime, group: &str, found: &Found) -> Result<Row, NoRow> {
-    let name = found.name.as_str();
-    match found.form {
-        Form::File => {
-            let bytes = bytes_of(rt, group, name, "row")?.ok_or(NoRow::Unreadable)?;
-            row_of(rt.alloc(), &bytes)
-        }
-        Form::Example => example(rt, group, name),
-        Form::Unnamed => Err(NoRow::Unreadable),
-    }
+/// Reads the row of a file of its own.
+pub fn read_file(rt: &HostRuntime, group: &str, name: &str) -> Result<Row, NoRow> {
+    let bytes = bytes_of(rt, group, name, "row")?.ok_or(NoRow::Unreadable)?;
+    row_of(rt.alloc(), &bytes)
 }
 
-/// Reads an example of a group.
-fn example(rt: &HostRuntime, group: &str, name: &str) -> Result<Row, NoRow> {
+/// Reads the rows of a table.
+pub fn read_table(rt: &HostRuntime, group: &str, name: &str) -> Result<Vec<TableRow>, NoRow> {
+    let bytes = bytes_of(rt, group, name, "rows")?.ok_or(NoRow::Unreadable)?;
+    rows_of(rt.alloc(), &bytes)
+}
+
+/// Reads an example.
+pub fn read_example(rt: &HostRuntime, group: &str, name: &str) -> Result<Row, NoRow> {
     let text = bytes_of(rt, group, name, "sour")?.ok_or(NoRow::Unreadable)?;
     let written = bytes_of(rt, group, name, "out")?.ok_or(NoRow::NoOutput)?;
     let status = match bytes_of(rt, group, name, "status")? {

@@ -7,7 +7,7 @@ use Rattle.sour_syntax.specs.declared.program.Version.{Version}
 use Rattle.sour_syntax.specs.Program.{IsFunction, AreFunctions}
 use Rattle.sour_syntax.specs.Targets.{HasExits}
 use Rattle.sour_raw.specs.declared.raw.RawFunction.{RawFunction}
-use Rattle.sour_raw.specs.Job.{SpellsFunction, SpellsFunctions}
+use Rattle.sour_raw.specs.Written.{IsWrittenFunction}
 use Rattle.sour_raw.specs.Limits.{IsShortFunction}
 use Rattle.sour_scope.specs.declared.outline.FunctionNames.{FunctionNames}
 use Rattle.sour_scope.specs.Numbered.{version_of, function_of, functions_of}
@@ -64,29 +64,29 @@ module _ (names : List FunctionNames) where
   }
 
   -- the function that is made of an accepted one with versions
-  is_function : (all : List Function) (number : ℕ) (function : RawFunction) (text : List (List (List ℕ))) → length names ≡ length all → SpellsFunction function text
+  is_function : (all : List Function) (number : ℕ) (function : RawFunction) → length names ≡ length all → IsWrittenFunction function
       → IsShortFunction function → IsAcceptedFunction names number function
       → AllByRecursion (λ (version : Version). HasExits all [] version.body) (map (version_of names number function.parameters) function.versions)
       → IsFunction all number (function_of names number function)
-  is_function all number function text same spelled short accepted exits =
+  is_function all number function same written short accepted exits =
       let count : length (map (version_of names number function.parameters) function.versions) ≡ length function.versions = length-map function.versions (version_of names number function.parameters) in record {
-        name = spelled.name;
-        some = map_some (version_of names number function.parameters) function.versions spelled.some;
+        name = written.name;
+        some = map_some (version_of names number function.parameters) function.versions written.some;
         names = versions_differ names number function.parameters function.versions accepted.versions;
         parameters = function.parameters;
         versions =
-            are_versions all names number function.parameters same accepted.parameters spelled.parameters function.versions spelled.lines spelled.versions short.each accepted.each exits;
+            are_versions all names number function.parameters same accepted.parameters written.parameters function.versions written.versions short.each accepted.each exits;
         few_parameters = short.parameters;
         few_versions = subst (λ n. n ≤ 16) (sym count) short.versions;
       }
 
   -- the functions that are made of the accepted ones of a text
-  pub are_functions : (all : List Function) (number : ℕ) (raw : List RawFunction) (text : List (List (List ℕ))) → length names ≡ length all → SpellsFunctions raw text
+  pub are_functions : (all : List Function) (number : ℕ) (raw : List RawFunction) → length names ≡ length all → AllByRecursion IsWrittenFunction raw
       → AllByRecursion IsShortFunction raw → AreAccepted names number raw → HaveExits all (functions_of names number raw) → AreFunctions all number (functions_of names number raw)
-  are_functions all number [] text same spells short accepted exits = tt
-  are_functions all number (first ∷ raw) text same (front, rest, whole, spelled, others) short accepted exits = (
-    is_function all number first front same spelled short.0 accepted.0 exits.0,
-    are_functions all (suc number) raw rest same others short.1 accepted.1 exits.1,
+  are_functions all number [] same written short accepted exits = tt
+  are_functions all number (first ∷ raw) same written short accepted exits = (
+    is_function all number first same written.0 short.0 accepted.0 exits.0,
+    are_functions all (suc number) raw same written.1 short.1 accepted.1 exits.1,
   )
 
   -- the functions that are made keep their names

@@ -15,7 +15,7 @@ use Rattle.sour_syntax.specs.Program.{ProgramView, NamesDiffer, AreFunctions, Ha
 use Rattle.sour_raw.specs.declared.raw.RawVersion.{RawVersion}
 use Rattle.sour_raw.specs.declared.raw.RawFunction.{RawFunction}
 use Rattle.sour_raw.specs.declared.raw.RawJob.{RawJob}
-use Rattle.sour_raw.specs.Job.{SpellsFunctions}
+use Rattle.sour_raw.specs.Written.{IsWrittenFunction}
 use Rattle.sour_raw.specs.Limits.{IsShortFunction}
 use Rattle.sour_scope.specs.declared.outline.FunctionNames.{FunctionNames}
 use Rattle.sour_scope.specs.Outline.{names_in, outline}
@@ -49,15 +49,14 @@ slice_get-functions_of names number last zero (first ∷ functions) function is 
 slice_get-functions_of names number last (suc place) (first ∷ functions) function is at =
     slice_get-functions_of names (suc number) last place functions function (omega arith) at
 
--- a function of a text has versions
-has_versions : (functions : List RawFunction) (text : List (List (List ℕ))) (place : ℕ) (function : RawFunction)
-    → SpellsFunctions functions text → slice_get functions place ≡ Some function → function.versions ≡ [] → ⊥
-has_versions [] text place function spells at none = absurd (cc)
-has_versions (first ∷ functions) text zero function (front, rest, whole, spelled, others) at none =
+-- a function that is written has versions
+has_versions : (functions : List RawFunction) (place : ℕ) (function : RawFunction)
+    → AllByRecursion IsWrittenFunction functions → slice_get functions place ≡ Some function → function.versions ≡ [] → ⊥
+has_versions [] place function written at none = absurd (cc)
+has_versions (first ∷ functions) zero function written at none =
     let same : first ≡ function = cc in
-    spelled.some (ap (λ (f : RawFunction). f.versions) same ∙ none)
-has_versions (first ∷ functions) text (suc place) function (front, rest, whole, spelled, others) at none =
-    has_versions functions rest place function others at none
+    written.0.some (ap (λ (f : RawFunction). f.versions) same ∙ none)
+has_versions (first ∷ functions) (suc place) function written at none = has_versions functions place function written.1 at none
 
 -- a function with versions and without parameters may be main
 main_versions : (names : List FunctionNames) (functions : List Function) (main : FunId) (function : RawFunction) (versions : List RawVersion)
@@ -75,23 +74,23 @@ main_versions names functions main function (version ∷ versions) found named p
 }
 
 -- the program has a function main with a version and without parameters
-has_main : (names : List FunctionNames) (raw : List RawFunction) (text : List (List (List ℕ))) (functions : List Function) (main : FunId)
-    → SpellsFunctions raw text → IsMain raw main.0 → functions ≡ functions_of names 0 raw → HasMain (record { functions = functions; main = main })
-has_main names raw text functions main spells is made =
+has_main : (names : List FunctionNames) (raw : List RawFunction) (functions : List Function) (main : FunId)
+    → AllByRecursion IsWrittenFunction raw → IsMain raw main.0 → functions ≡ functions_of names 0 raw → HasMain (record { functions = functions; main = main })
+has_main names raw functions main written is made =
     let found = slice_get-functions_of names 0 main.0 main.0 raw is.function (omega arith) is.there in
     main_versions names functions main is.function is.function.versions (ap (λ zs. slice_get zs main.0) made ∙ found) is.name is.parameters refl
-    (has_versions raw text main.0 is.function spells is.there)
+    (has_versions raw main.0 is.function written is.there)
 
 -- there are as many functions in the program as in the text
 pub as_many : (names : List FunctionNames) (raw : List RawFunction) (functions : List Function) → functions ≡ functions_of names 0 raw → length functions ≡ length raw
 as_many names raw functions made = ap length made ∙ length-functions_of names 0 raw
 
 -- the functions that are made of accepted ones, one of them main, are a program
-pub is_program : (raw : List RawFunction) (text : List (List (List ℕ))) (functions : List Function) (main : FunId)
-    → SpellsFunctions raw text → length raw ≤ 256 → AllByRecursion IsShortFunction raw → NamesDiffer (function_names raw)
+pub is_program : (raw : List RawFunction) (functions : List Function) (main : FunId)
+    → AllByRecursion IsWrittenFunction raw → length raw ≤ 256 → AllByRecursion IsShortFunction raw → NamesDiffer (function_names raw)
     → AreAccepted (outline raw) 0 raw → IsMain raw main.0
     → functions ≡ functions_of (outline raw) 0 raw → HaveExits functions functions → IsProgram (record { functions = functions; main = main })
-is_program raw text functions main spells few short differ accepted is made exits =
+is_program raw functions main written few short differ accepted is made exits =
     let names : List FunctionNames = outline raw in
     let P : List (List ℕ) → Type 0 = NamesDiffer in
     let count : length functions ≡ length raw = as_many names raw functions made in
@@ -100,8 +99,8 @@ is_program raw text functions main spells few short differ accepted is made exit
       few = subst (λ n. n ≤ 256) (sym count) few;
       each =
           subst (AreFunctions functions 0) (sym made)
-          (are_functions names functions 0 raw text named spells short accepted (subst (HaveExits functions) made exits));
-      main = has_main names raw text functions main spells is made;
+          (are_functions names functions 0 raw named written short accepted (subst (HaveExits functions) made exits));
+      main = has_main names raw functions main written is made;
     }
 
 -- the exits of an accepted text

@@ -17,8 +17,7 @@ use Rattle.sour_raw.specs.declared.raw.RawInstr.{RawInstr}
 use Rattle.sour_raw.specs.declared.raw.RawInstr.TheVariants.{Var, Drop, Assign, ArrayLength, ArrayList, Store, Print, Read, Branch, Goto, Call, Return, Stop, Assume}
 use Rattle.sour_raw.specs.declared.raw.RawLine.{RawLine}
 use Rattle.sour_raw.specs.declared.raw.RawVersion.{RawVersion}
-use Rattle.sour_raw.specs.Instruction.{SpellsLabelled}
-use Rattle.sour_raw.specs.Job.{SpellsLines, SpellsVersions}
+use Rattle.sour_raw.specs.Written.{IsWrittenLabel, IsWrittenLine, IsWrittenVersion}
 use Rattle.sour_raw.specs.Limits.{IsShortVersion, HasShortInstrs, IsShortInstr as IsShortRaw}
 use Rattle.sour_raw.specs.Mentions.{variables_of}
 use Rattle.sour_scope.specs.declared.outline.FunctionNames.{FunctionNames}
@@ -52,19 +51,18 @@ body_is names function parameters own variables raw first second count lines cou
     ap (λ n. made n variables lines) count_is ∙ ap (λ v. made (length parameters) v lines) (variables_are ∙ own_all)
     ∙ ap (made (length parameters) all) (lines_are ∙ ap (λ v. lines_of names v 0 second) own_all ∙ ap (lines_of names all 0) second_is)
 
--- the label of a line that is spelled is a name where it is written, and else the automatic one of its place
-label_named : (label : Option (List ℕ)) (instr : RawInstr) (tokens : List (List ℕ)) (place : ℕ) → SpellsLabelled label instr tokens
+-- the label of a line is a name where it is written, and else the automatic one of its place
+label_named : (label : Option (List ℕ)) (place : ℕ) → IsWrittenLabel label
     → IsName (label_of place label) ⊎ (label_of place label ≡ automatic_label place)
-label_named None instr tokens place spells = inr refl
-label_named (Some label) instr tokens place (rest, whole, name, spells) = inl name
+label_named None place written = inr refl
+label_named (Some label) place written = inl written
 
--- lines that are made of spelled ones have such labels
-labels_named : (names : List FunctionNames) (own : List (List ℕ)) (place : ℕ) (lines : List RawLine) (text : List (List (List ℕ))) → SpellsLines lines text
+-- lines that are made of written ones have such labels
+labels_named : (names : List FunctionNames) (own : List (List ℕ)) (place : ℕ) (lines : List RawLine) → AllByRecursion IsWrittenLine lines
     → HasLabels place (lines_of names own place lines)
-labels_named names own place [] text spells = tt
-labels_named names own place (line ∷ lines) [] spells = absurd spells
-labels_named names own place (line ∷ lines) (tokens ∷ text) spells =
-    (label_named line.label line.instr tokens place spells.0, labels_named names own (suc place) lines text spells.1)
+labels_named names own place [] written = tt
+labels_named names own place (line ∷ lines) (one, others) =
+    (label_named line.label place one.label, labels_named names own (suc place) lines others)
 
 -- an instruction is as short as it is written
 instr_short : (names : List FunctionNames) (own : List (List ℕ)) (instr : RawInstr) → IsShortRaw instr → IsShortInstr (instr_of names own instr)
@@ -94,14 +92,14 @@ instrs_short names own place (line ∷ lines) short = (instr_short names own lin
 
 module _ (functions : List Function) (names : List FunctionNames) (number : ℕ) (parameters : List (List ℕ)) (count : length names ≡ length functions) (differ : NamesDiffer parameters) (named : AllByRecursion IsName parameters) where
   -- the version that is made of an accepted one
-  is_version : (version : RawVersion) (text : List (List (List ℕ))) → IsName version.name → SpellsLines version.lines text → IsShortVersion parameters version → IsAcceptedVersion names number parameters version
+  is_version : (version : RawVersion) → IsWrittenVersion version → IsShortVersion parameters version → IsAcceptedVersion names number parameters version
       → HasExits functions [] (body_of names number parameters version.lines) → IsVersion functions number parameters (version_of names number parameters version)
-  is_version version text name spells short accepted exits =
+  is_version version written short accepted exits =
       let own : List (List ℕ) = variables_of parameters version.lines in
       let lines : List Line = lines_of names own 0 version.lines in
       let many : length lines ≡ length version.lines = length-lines_of names own 0 version.lines in
       let first = parameters_first parameters version.lines differ in record {
-        name = name;
+        name = written.name;
         body = accepted.body;
         numbered = refl;
         takes = refl;
@@ -109,8 +107,8 @@ module _ (functions : List Function) (names : List FunctionNames) (number : ℕ)
         variables = first.1;
         order = variables_in_order names parameters version.lines differ;
         differ = variables_differ parameters version.lines;
-        names = named_variables parameters version.lines text named spells;
-        labels = labels_named names own 0 version.lines text spells;
+        names = named_variables parameters version.lines named written.lines;
+        labels = labels_named names own 0 version.lines written.lines;
         literals = subst (λ n. HasLiterals n lines) count accepted.literals;
         exits = exits;
         lines = subst (λ n. n ≤ 4096) (sym many) short.lines;
@@ -119,13 +117,13 @@ module _ (functions : List Function) (names : List FunctionNames) (number : ℕ)
       }
 
   -- the versions that are made of accepted ones
-  pub are_versions : (versions : List RawVersion) (text : List (List (List ℕ))) → SpellsVersions versions text → AllByRecursion (IsShortVersion parameters) versions
+  pub are_versions : (versions : List RawVersion) → AllByRecursion IsWrittenVersion versions → AllByRecursion (IsShortVersion parameters) versions
       → AllByRecursion (IsAcceptedVersion names number parameters) versions
       → AllByRecursion (λ (version : Version). HasExits functions [] version.body) (map (version_of names number parameters) versions)
       → AllByRecursion (IsVersion functions number parameters) (map (version_of names number parameters) versions)
-  are_versions [] text spells short all exits = tt
-  are_versions (version ∷ versions) text (front, rest, whole, (lines, heading, name, spelled), others) short all exits =
-      (is_version version lines name spelled short.0 all.0 exits.0, are_versions versions rest others short.1 all.1 exits.1)
+  are_versions [] written short all exits = tt
+  are_versions (version ∷ versions) written short all exits =
+      (is_version version written.0 short.0 all.0 exits.0, are_versions versions written.1 short.1 all.1 exits.1)
 
 -- their names differ as before
 pub versions_differ : (names : List FunctionNames) (number : ℕ) (parameters : List (List ℕ)) (versions : List RawVersion) → NamesDiffer (map version_name versions)

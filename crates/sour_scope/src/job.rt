@@ -1,13 +1,14 @@
 //! A text as a whole.
 
-ghost use Rattle.std.specs.Prelude.{◌≡◌, ◌↔◌, ℕ, List, length, IfOk, IsErrOf};
+ghost use Rattle.std.specs.Prelude.{◌≡◌, ◌↔◌, List, length, IfOk, IsErrOf};
 ghost use Rattle.std.specs.List.{AllByRecursion};
 ghost use Rattle.sour_syntax.specs.declared.literal.Literal.{Literal};
 ghost use Rattle.sour_syntax.specs.declared.plan.PlanJob.{PlanJob};
 ghost use Rattle.sour_syntax.specs.Literals.{IsLiteral};
 ghost use Rattle.sour_syntax.specs.Plan.{IsKnownJob};
 ghost use Rattle.sour_syntax.specs.Program.{ProgramView};
-ghost use Rattle.sour_raw.specs.Job.{Reads};
+ghost use Rattle.sour_raw.specs.Limits.{IsShort};
+ghost use Rattle.sour_raw.specs.Written.{IsWritten};
 ghost use Rattle.sour_scope.specs.Checked.{IsChecked};
 
 use crate::exits::exits_are_right;
@@ -26,7 +27,8 @@ use std::sync::Arc;
 
 /// The program, the plan and the inputs that a text means.
 pub fn check(alloc: Global, raw: RawJob) -> Result<Job, ScopeFault>
-    requires { (bytes : List ℕ) × Reads bytes raw }
+    requires written { IsWritten raw }
+    requires short { IsShort raw }
     // It means this program, this plan and these inputs, and no others.
     ensures found { IfOk result (λ job. (program : ProgramView) (plan : List PlanJob) (inputs : List (List Literal)) →
         IsChecked raw program plan inputs ↔ ((program ≡ job.program.value) × (plan ≡ job.plan) × (inputs ≡ job.inputs))) }

@@ -82,7 +82,15 @@ fn writes_the_line_of_a_fault(rt: HostRuntime) -> Result<(), Fail> {
         (Fault::Words, "fault words\n", 2),
         (Fault::Read, "fault read\n", 4),
         (Fault::TextTooLong, "fault text 5 line 0 column 0\n", 3),
-        (Fault::TextUnplaced, "fault text 3 line 0 column 0\n", 3),
+        (
+            Fault::Text {
+                kind: 3,
+                line: 1,
+                column: 11,
+            },
+            "fault text 3 line 1 column 11\n",
+            3,
+        ),
         (Fault::ScopeUnplaced, "fault scope 0 line 0\n", 3),
         (Fault::Memory, "fault memory\n", 6),
     ] {

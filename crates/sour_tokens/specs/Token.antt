@@ -1,10 +1,8 @@
--- What a token is, and what each token of the code is.
-use Rattle.std.specs.Prelude.{◌≡◌, ℕ, List, [], ◌∷◌, ◌⊎◌, IsTrue, ⊤}
+-- What a word, digits and a symbol are.
+use Rattle.std.specs.Prelude.{◌≡◌, ℕ, List, [], ◌∷◌, ◌⊎◌, IsTrue}
 use Rattle.std.specs.List.{AllPass}
 use Rattle.std.specs.Char.{is_ascii_digit}
 use Rattle.sour_tokens.specs.declared.symbols.Symbol.{Symbol}
-use Rattle.sour_tokens.specs.declared.tokens.Token.{Token}
-use Rattle.sour_tokens.specs.declared.tokens.Token.TheVariants as variant
 use Rattle.sour_tokens.specs.Byte.{begins_word, continues_word}
 use Rattle.sour_tokens.specs.Symbol.{symbol_spelling}
 
@@ -25,15 +23,3 @@ IsSymbol bytes = (symbol : Symbol) × (bytes ≡ symbol_spelling symbol)
 -- a token is a word, digits or a symbol
 abbrev pub IsToken : List ℕ → Type 0
 IsToken bytes = IsWord bytes ⊎ (IsDigits bytes ⊎ IsSymbol bytes)
-
--- the bytes of a token of the code
-abbrev pub spelling : Token → List ℕ
-spelling (variant.Word bytes) = bytes.now
-spelling (variant.Digits bytes) = bytes.now
-spelling (variant.Symbol symbol) = symbol_spelling symbol
-
--- its bytes are those of its kind
-abbrev pub IsOfItsKind : Token → Type 0
-IsOfItsKind (variant.Word bytes) = IsWord bytes.now
-IsOfItsKind (variant.Digits bytes) = IsDigits bytes.now
-IsOfItsKind (variant.Symbol symbol) = ⊤

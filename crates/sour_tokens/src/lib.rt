@@ -1,14 +1,7 @@
-//! The first half of the reader: it splits a text into lines, and each line into tokens.
+//! What the tokens of a text are made of: classes of bytes, words, digits and symbols. The definitions are in
+//! `specs`; the code is the type of the symbols alone.
 #![tactic(auto)]
 
-mod bytes;
-mod lines;
-mod steps;
 mod symbols;
-mod token_lines;
-mod tokens;
 
-pub use lines::LineFault;
 pub use symbols::Symbol;
-pub use token_lines::TokenLines;
-pub use tokens::Token;

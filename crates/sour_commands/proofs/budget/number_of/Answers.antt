@@ -1,4 +1,4 @@
-use Rattle.sour_raw.proofs.Digits.{parse_from_token}
+use Rattle.sour_commands.proofs.DigitLemmas.{parse_from_token}
 use Rattle.sour_tokens.specs.Token.{IsDigits}
 use Rattle.sour_commands.proofs.WordLemmas.{WritesNumber-read}
 use Rattle.sour_commands.proofs.budget.number_of.Goals as goal

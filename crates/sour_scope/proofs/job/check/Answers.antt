@@ -49,7 +49,7 @@ returns-then-not-plan_is_known-clause-unplaced c = λ _ program plan inputs chec
 pub of_functions-requires : goal.of_functions-requires
 of_functions-requires c =
     let outlined : c.in_ok-outline.outline ≡ outline c.args.raw.functions = rw c.as_slice-2.ensures at c.in_ok-outline.ensures in
-    is_program c.args.raw.functions _ c.in-Some-2.functions c.in-Some-main_of.main c.requires.1.spelled.each c.requires.1.short.functions c.requires.1.short.each
+    is_program c.args.raw.functions c.in-Some-2.functions c.in-Some-main_of.main c.requires.written.functions c.requires.short.functions c.requires.short.each
     (rw (c.in-Some.is, c.as_slice.ensures) at c.in_ok-names.ensures.differ) (rw (c.in-Some-2.is, c.as_slice-3.ensures, outlined) at c.in_ok-functions.ensures.accepted)
     (rw c.as_slice-5.ensures at c.in-Some-main_of.ensures.some) (rw (c.in-Some-2.is, c.as_slice-3.ensures, outlined) at c.in_ok-functions.ensures.some)
     (rw c.as_slice-4.ensures at (c.in_ok-exits_are_right.ensures.0 c.if-not-branch.false))

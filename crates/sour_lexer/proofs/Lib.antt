@@ -1,0 +1,11 @@
+pub mod ByteLaws
+pub mod Runs
+pub mod SymbolLaws
+pub mod SpelledLaws
+pub mod LineLaws
+pub mod FrontLaws
+pub mod LineRead
+pub mod TextRead
+pub mod OneList
+pub mod SomeList
+pub mod TokenLists
