@@ -60,7 +60,7 @@ pub record IsBodyOf (program : ProgramView) (code : FrameCode) (body : BodyView)
       → AllByRecursion (Leads program code) (continuations_of line.instr)
 
 -- where a continuation lands it leads, if what it names stands below the code
-Leads-lands : (program : ProgramView) (from : FrameCode) (bodies : List BodyView) (continuation : Continuation)
+pub Leads-lands : (program : ProgramView) (from : FrameCode) (bodies : List BodyView) (continuation : Continuation)
     → ((body : BodyView) → named_body program.functions bodies continuation.target.code ≡ Some body
     → NamesBelow program from continuation.target.code body)
     → Lands program.functions bodies continuation → Leads program from continuation
@@ -77,7 +77,7 @@ Leads-lands program from bodies continuation below lands =
     }
 
 -- an exit of a version names a version
-NamesBelow-text : (program : ProgramView) (function : FunId) (version : ℕ) (code : Code) (body : BodyView)
+pub NamesBelow-text : (program : ProgramView) (function : FunId) (version : ℕ) (code : Code) (body : BodyView)
     → named_body program.functions [] code ≡ Some body → NamesBelow program (text function version) code body
 NamesBelow-text program function version (Text f place) body found =
     record { found = found; fine = tt; lower = λ above. absurd (omega (arith, above)) }
@@ -139,7 +139,7 @@ IsBodyOf-text_body program f place (Some function) body (number, fine) is =
     (IsBodyOf-version program f place number fine.parameters) function.versions fine.versions)) is
 
 -- what is looked up among some functions is one with a number
-IfSome-functions : (all : List Function) (number : ℕ) (functions : List Function) (place : ℕ) → AreFunctions all number functions
+pub IfSome-functions : (all : List Function) (number : ℕ) (functions : List Function) (place : ℕ) → AreFunctions all number functions
     → IfSome (slice_get functions place) (λ (function : Function). (other : ℕ) × IsFunction all other function)
 IfSome-functions all number [] place are = tt
 IfSome-functions all number (function ∷ functions) zero are = (number, are.0)

@@ -74,7 +74,7 @@ IsValidFrame-landed program from heap continuation values leads are =
     }
 
 -- there are as many values as expressions
-IfOk-count : (environment : Environment) (heap : Heap) (es : List Expr)
+pub IfOk-count : (environment : Environment) (heap : Heap) (es : List Expr)
     → IfOk (eval_each environment heap es) (λ (values : List Value). length values ≡ length es)
 IfOk-count environment heap [] = refl
 IfOk-count environment heap (e ∷ es) =
@@ -83,7 +83,7 @@ IfOk-count environment heap (e ∷ es) =
     (λ value values any same. omega (arith, same)) (IfOk-any (eval environment heap e)) (IfOk-count environment heap es)
 
 -- as many values as a map has expressions are as many as its variables
-counted : (r : Result (List Value) Trap) (binds : List Bind)
+pub counted : (r : Result (List Value) Trap) (binds : List Bind)
     → IfOk r (λ (values : List Value). length values ≡ length (bound_values binds))
     → IfOk r (λ (values : List Value). length values ≡ length (bound_names binds))
 counted (Ok values) binds same =

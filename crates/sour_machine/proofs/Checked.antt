@@ -1,52 +1,59 @@
--- What holds of the bodies of a checked program.
-use Rattle.std.proofs.Common.{◌≡◌, ℕ, zero, suc, List, [], ◌∷◌, Option, None, Some, refl, subst}
-use Rattle.std.specs.List.{AllByRecursion, slice_get}
+-- What holds of the body that a frame of a checked program runs.
+use Rattle.std.proofs.Common.{◌≡◌, ◌<◌, ℕ, List, [], Option, None, Some, true, false, subst, arith}
+use Rattle.std.specs.Prelude.{IfSome}
+use Rattle.std.specs.List.{slice_get}
+use Rattle.std.proofs.lemmas.Bool.{false_from_ne_true}
+use Rattle.sour_syntax.specs.declared.instruction.Line.{Line}
 use Rattle.sour_syntax.specs.declared.program.Function.{Function}
 use Rattle.sour_syntax.specs.declared.program.Version.{Version}
 use Rattle.sour_syntax.specs.BodyView.{BodyView}
-use Rattle.sour_syntax.specs.Program.{ProgramView, IsPlainName, IsVersion, IsFunction, AreFunctions, IsProgram}
+use Rattle.sour_syntax.specs.Program.{ProgramView, IsVersion, IsFunction, IsProgram}
 use Rattle.sour_syntax.specs.Targets.{version_body, text_body, HasExits}
-use Rattle.sour_syntax.proofs.PlainNames.{plain_labels}
-use Rattle.sour_semantics.specs.Step.{body_at}
+use Rattle.sour_syntax.proofs.Everywhere.{AllByRecursion-weaker, IfSome-slice_get}
+use Rattle.sour_semantics.specs.Step.{body_at, is_anchor}
+use Rattle.sour_semantics.specs.State.{text}
 use Rattle.sour_machine.specs.declared.frame.FrameCode.{FrameCode}
 use Rattle.sour_machine.specs.declared.frame.FrameCode.TheVariants.{Text}
 use Rattle.sour_machine.specs.Frame.{code_of}
+use Rattle.laws_validity.proofs.Bodies.{depth, IsBodyOf, IsBodyOf-code, IfSome-functions}
 
--- what is used of the body of a version
-pub record IsTextBody (functions : List Function) (body : BodyView) : Type 0 where
-  pub labels : AllByRecursion (λ line. IsPlainName line.label) body.lines
-  pub exits : HasExits functions [] body
+-- it is one that a valid frame runs
+pub IsBodyOf-runs : (program : ProgramView) (code : FrameCode) (body : BodyView) → IsProgram program
+    → body_at program (code_of code) ≡ Some body
+    → IsBodyOf program (code_of code) body
+IsBodyOf-runs program (Text function version) body checked runs =
+    IsBodyOf-code program (text function version) body checked tt runs
 
--- what is found at a place among some functions of a program is the function that has some number
-function_at : (functions : List Function) (number : ℕ) (some : List Function) (place : ℕ) (function : Function) → AreFunctions functions number some → slice_get some place ≡ Some function
-    → (n : ℕ) × IsFunction functions n function
-function_at functions number [] place function are found = cc
-function_at functions number (first ∷ some) zero function are found =
-    let same : first ≡ function = cc in
-    let Is : Function → Type 0 = IsFunction functions number in
-    (number, subst Is same are.0)
-function_at functions number (first ∷ some) (suc place) function are found = function_at functions (suc number) some place function are.1 found
+-- a line of it, as one of a version, is no anchor
+pub plain-line : (program : ProgramView) (code : FrameCode) (line : Line)
+    → (is_anchor line.label ≡ true → 0 < depth (code_of code))
+    → is_anchor line.label ≡ false
+plain-line program (Text function version) line above =
+    false_from_ne_true (is_anchor line.label) (λ anchor. absurd (omega (arith, above anchor)))
 
--- the body of a version of a function has plain labels, and exits that lead where they may
-version_at : (functions : List Function) (number : ℕ) (parameters : List (List ℕ)) (versions : List Version) (place : ℕ) (body : BodyView) → AllByRecursion (IsVersion functions number parameters) versions
-    → version_body (slice_get versions place) ≡ Some body → IsTextBody functions body
-version_at functions number parameters [] place body all runs = cc
-version_at functions number parameters (version ∷ versions) zero body all runs =
-    let same : version.body ≡ body = cc in
-    let Is : BodyView → Type 0 = IsTextBody functions in
-    subst Is same (record { labels = plain_labels functions number parameters version all.0; exits = all.0.exits })
-version_at functions number parameters (version ∷ versions) (suc place) body all runs = version_at functions number parameters versions place body all.1 runs
+-- the exits of what may be a version lead where they may, if those of a version do
+IfSome-version : (functions : List Function) (found : Option Version)
+    → IfSome found (λ (version : Version). HasExits functions [] version.body)
+    → IfSome (version_body found) (HasExits functions [])
+IfSome-version functions None exits = tt
+IfSome-version functions (Some version) exits = exits
 
--- so has the body that is found for a version, if what is found for its function is one of the program
-text_at : (functions : List Function) (found : Option Function) (version : ℕ) (body : BodyView) → ((function : Function) → found ≡ Some function → (n : ℕ) × IsFunction functions n function)
-    → text_body found version ≡ Some body → IsTextBody functions body
-text_at functions None version body each runs = cc
-text_at functions (Some function) version body each runs =
-    let is : (n : ℕ) × IsFunction functions n function = each function refl in
-    version_at functions is.0 is.1.parameters function.versions version body is.1.versions runs
+-- and those of a version of what may be a function
+IfSome-text : (functions : List Function) (found : Option Function) (place : ℕ)
+    → IfSome found (λ (function : Function). (number : ℕ) × IsFunction functions number function)
+    → IfSome (text_body found place) (HasExits functions [])
+IfSome-text functions None place is = tt
+IfSome-text functions (Some function) place (number, is) =
+    let Leads : Version → Type 0 = λ version. HasExits functions [] version.body in
+    IfSome-version functions (slice_get function.versions place)
+    (IfSome-slice_get Leads function.versions place
+    (AllByRecursion-weaker (IsVersion functions number is.parameters) Leads
+    (λ version fine. fine.exits) function.versions is.versions))
 
--- the body of a frame is that of a version
-pub IsTextBody-runs : (program : ProgramView) (code : FrameCode) (body : BodyView) → IsProgram program → body_at program (code_of code) ≡ Some body → IsTextBody program.functions body
-IsTextBody-runs program (Text function version) body checked runs =
-    text_at program.functions (slice_get program.functions function.0) version body
-    (λ found is. function_at program.functions 0 program.functions function.0 found checked.each is) runs
+-- its exits lead to versions
+pub HasExits-runs : (program : ProgramView) (code : FrameCode) (body : BodyView) → IsProgram program
+    → body_at program (code_of code) ≡ Some body → HasExits program.functions [] body
+HasExits-runs program (Text function version) body checked runs =
+    subst (λ (found : Option BodyView). IfSome found (HasExits program.functions [])) runs
+    (IfSome-text program.functions (slice_get program.functions function.0) version
+    (IfSome-functions program.functions 0 program.functions function.0 checked.each))

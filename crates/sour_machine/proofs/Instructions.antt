@@ -17,43 +17,17 @@ use Rattle.sour_syntax.specs.declared.trap.Trap.{Trap}
 use Rattle.sour_syntax.specs.declared.trap.Trap.TheVariants.{ArgCount, HeapFull, OutputFull}
 use Rattle.sour_syntax.specs.Exits.{continuations}
 use Rattle.sour_syntax.specs.Program.{ProgramView}
-use Rattle.sour_semantics.specs.State.{Environment, Heap, Frame, FrameCode, State, trapped}
+use Rattle.sour_semantics.specs.State.{Frame, FrameCode, State, trapped}
 use Rattle.sour_semantics.specs.Step.{Entry, Choice, text_choice, body_at, ends, takes_turn, landed_frames, replaces_top, leaves, is_anchor, takes_exit_turn, assumes, stays, goes_to, sets, given, branches, cell_limit, count_heap, next_array, makes, makes_empty, output_limit, prints, waits_for, entered_frame, entered_code, enters, calls, resumes, returns, act}
 use Rattle.sour_semantics.specs.Evaluation.{eval, eval_each, operand, number_in, truth_in, function_in, holds_each}
 use Rattle.sour_semantics.specs.Text.{value_text}
 use Rattle.sour_machine.specs.Instruction.{IsCrossing, LeadsOut, jumps_away}
-use Rattle.sour_machine.specs.Run.{is_call}
 use Rattle.sour_machine.specs.Want.{TakesMemoryInside}
-
-module _ (program : ProgramView) (choice : Choice) (frame : Frame) (expr : Expr) (next : List ℕ) (s : State) (trap : Trap) (evaluated : eval frame.environment s.heap expr ≡ Err trap) where
-  pub act-set-trap : (x : VarId) → act program choice frame (Var x expr) next s ≡ ends (trapped trap) s
-  act-set-trap x = ap (λ outcome. given outcome (λ value. goes_to next (sets x value s)) s) evaluated
-
-  pub act-return-trap : act program choice frame (Return expr) next s ≡ ends (trapped trap) (takes_turn s)
-  act-return-trap = ap (λ outcome. given outcome (λ value. returns value s.frames (takes_turn s)) (takes_turn s)) evaluated
-
-  pub act-branch-trap : (first second : List ℕ) → act program choice frame (Branch expr first second) next s ≡ ends (trapped trap) (takes_turn s)
-  act-branch-trap first second = ap (λ outcome. given outcome (λ value. branches (truth_in value) first second (takes_turn s)) (takes_turn s)) evaluated
-
-module _ (program : ProgramView) (choice : Choice) (frame : Frame) (expr : Expr) (next : List ℕ) (s : State) (value : Value) (evaluated : eval frame.environment s.heap expr ≡ Ok value) where
-  pub act-return : act program choice frame (Return expr) next s ≡ returns value s.frames (takes_turn s)
-  act-return = ap (λ outcome. given outcome (λ value. returns value s.frames (takes_turn s)) (takes_turn s)) evaluated
-
-  pub act-set : (x : VarId) → act program choice frame (Var x expr) next s ≡ goes_to next (sets x value s)
-  act-set x = ap (λ outcome. given outcome (λ value. goes_to next (sets x value s)) s) evaluated
-
-  pub act-branch : (first second : List ℕ) → act program choice frame (Branch expr first second) next s ≡ branches (truth_in value) first second (takes_turn s)
-  act-branch first second = ap (λ outcome. given outcome (λ value. branches (truth_in value) first second (takes_turn s)) (takes_turn s)) evaluated
 
 -- an assume that doesn't hold leaves
 pub act-leaves : (program : ProgramView) (frame : Frame) (es : List Expr) (exit : Exit) (next : List ℕ) (s : State) → holds_each frame.environment s.heap es ≡ Ok false
     → act program text_choice frame (Assume es exit) next s ≡ assumes program frame exit next false s
 act-leaves program frame es exit next s out = ap (λ outcome. given outcome (λ holds. assumes program frame exit next (stays text_choice frame.label holds) s) s) out
-
--- what an exit of a text version leaves of a state
-pub act-exit : (program : ProgramView) (frame : Frame) (es : List Expr) (exit : Exit) (next : List ℕ) (s : State) → holds_each frame.environment s.heap es ≡ Ok false → is_anchor frame.label ≡ false
-    → act program text_choice frame (Assume es exit) next s ≡ leaves program frame exit (takes_turn s)
-act-exit program frame es exit next s out plain = act-leaves program frame es exit next s out ∙ ap (λ anchor. leaves program frame exit (takes_exit_turn anchor s)) plain
 
 -- an instruction takes a turn, wherever it stands
 abbrev pub AlwaysTakesTurn : Instr → Type 0
@@ -199,23 +173,6 @@ turns_crossing (Call x callee es) crosses = turns_call x callee es
 turns_crossing (Return e) crosses = turns_return e
 turns_crossing Stop crosses = absurd crosses
 turns_crossing (Assume es exit) crosses = absurd crosses
-
--- no instruction that leads out is a call
-pub calls_none-out : (instr : Instr) (environment : Environment) (heap : Heap) → LeadsOut instr environment heap → is_call instr ≡ false
-calls_none-out (Var x e) environment heap out = absurd out
-calls_none-out (Drop x) environment heap out = absurd out
-calls_none-out (Assign x e) environment heap out = absurd out
-calls_none-out (ArrayLength x e) environment heap out = absurd out
-calls_none-out (ArrayList x es) environment heap out = absurd out
-calls_none-out (Store x index e) environment heap out = absurd out
-calls_none-out (Print e) environment heap out = absurd out
-calls_none-out (Read x) environment heap out = absurd out
-calls_none-out (Branch e a b) environment heap out = absurd out
-calls_none-out (Goto a) environment heap out = absurd out
-calls_none-out (Call x callee es) environment heap out = absurd out
-calls_none-out (Return e) environment heap out = absurd out
-calls_none-out Stop environment heap out = absurd out
-calls_none-out (Assume es exit) environment heap out = refl
 
 -- leaving by an exit counts no turn by itself
 turns-leaves : (program : ProgramView) (frame : Frame) (exit : Exit) (s : State) → (leaves program frame exit s).turns ≡ s.turns

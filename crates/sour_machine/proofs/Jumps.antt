@@ -1,6 +1,6 @@
 -- Where a run goes on: the places of labels, and the lines that may follow one.
-use Rattle.std.proofs.Common.{◌≡◌, ℕ, zero, suc, ◌+◌, List, [], ◌∷◌, Contains, map, sym, ap, subst, arith}
-use Rattle.std.specs.List.{AllByRecursion}
+use Rattle.std.proofs.Common.{◌≡◌, ◌∙◌, ℕ, ◌+◌, List, Contains, map, sym, ap, subst, arith}
+use Rattle.std.proofs.lemmas.List.{get_or-map, length-map}
 use Rattle.sour_syntax.specs.declared.instruction.Instr.{Instr}
 use Rattle.sour_syntax.specs.declared.instruction.Line.{Line}
 use Rattle.sour_syntax.specs.declared.jump.Jump.{Jump}
@@ -24,11 +24,7 @@ state_at_place program input moment label place at =
 
 -- where a list has an element, what is made of it is among what is made of each
 Contains-map : {X Y : Type 0} (f : X → Y) (xs : List X) (x : X) → Contains xs x → Contains (map f xs) (f x)
-Contains-map f [] x (k, within, found) = absurd (omega arith)
-Contains-map f (first ∷ xs) x (zero, within, found) = (zero, omega arith, ap f found)
-Contains-map f (first ∷ xs) x (suc k, within, found) =
-    let inner : Contains (map f xs) (f x) = Contains-map f xs x (k, omega arith, found) in
-    (suc inner.0, omega (arith, inner.1), inner.2)
+Contains-map f xs x at = (at.0, omega (arith, at.1, length-map xs f), get_or-map f xs at.0 x (f x) at.1 ∙ ap f at.2)
 
 -- where a run goes on, there is a label that may follow the instruction
 pub Contains-following_labels : (lines : List Line) (instr : Instr) (jump : Jump) (place next : ℕ) → GoesTo lines instr jump → Contains (following instr jump (place + 1)) next
@@ -36,9 +32,3 @@ pub Contains-following_labels : (lines : List Line) (instr : Instr) (jump : Jump
 Contains-following_labels lines instr jump place next goes at =
     let Follows : List (List ℕ) → Type 0 = λ labels. Contains labels (label_at lines next) in
     subst Follows (sym (following_labels_are lines instr jump (place + 1) goes)) (Contains-map (label_at lines) (following instr jump (place + 1)) next at)
-
--- what holds of each holds of one of them
-pub All-Contains : {X : Type 0} (P : X → Type 0) (xs : List X) (x : X) → AllByRecursion P xs → Contains xs x → P x
-All-Contains P [] x all (k, within, found) = absurd (omega arith)
-All-Contains P (first ∷ xs) x all (zero, within, found) = subst P found all.0
-All-Contains P (first ∷ xs) x all (suc k, within, found) = All-Contains P xs x all.1 (k, omega arith, found)

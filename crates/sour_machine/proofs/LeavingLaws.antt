@@ -1,16 +1,14 @@
 -- What leaving by an exit makes.
-use Rattle.std.proofs.Common.{◌≡◌, ℕ, zero, suc, ◌+◌, ◌<◌, List, [], ◌∷◌, ◌++◌, Option, None, Some, Result, Ok, Err, length, map, replicate, drop, get_or, set, refl, sym, ap, ◌∙◌, subst, append_assoc, drop-cons, add-one, arith}
-use Rattle.std.specs.Prelude.{reverse, IfSome, OnOk}
+use Rattle.std.proofs.Common.{◌≡◌, ℕ, zero, suc, ◌+◌, ◌<◌, List, [], ◌∷◌, ◌++◌, Option, None, Some, Result, Ok, Err, length, map, replicate, drop, get_or, refl, sym, ap, ◌∙◌, subst, append_assoc, drop-cons, add-one, arith}
+use Rattle.std.specs.Prelude.{reverse, IfOk, IfSome}
 use Rattle.std.specs.List.{AllByRecursion}
 use Rattle.std.proofs.lemmas.Grind.{reverse_onto}
-use Rattle.std.proofs.lemmas.List.{map-append, length-map, length-replicate, reverse-append, reverse-reverse}
+use Rattle.std.proofs.lemmas.List.{map-append, length-replicate, reverse-append, reverse-reverse}
+use Rattle.std.proofs.lemmas.Option.{same_Some}
 use Rattle.sour_syntax.specs.declared.exit.Bind.{Bind}
-use Rattle.sour_syntax.specs.declared.exit.Code.{Code}
-use Rattle.sour_syntax.specs.declared.exit.Code.TheVariants.{Text, Made}
 use Rattle.sour_syntax.specs.declared.exit.Exit.{Exit}
 use Rattle.sour_syntax.specs.declared.exit.Extra.{Extra}
 use Rattle.sour_syntax.specs.declared.exit.Target.{Target}
-use Rattle.sour_syntax.specs.declared.expression.Expr.{Expr}
 use Rattle.sour_syntax.specs.declared.literal.Literal.{Literal}
 use Rattle.sour_syntax.specs.declared.literal.Value.{Value}
 use Rattle.sour_syntax.specs.declared.literal.VarId.{VarId}
@@ -20,19 +18,20 @@ use Rattle.sour_syntax.specs.Exits.{Continuation, extra_continuation, continuati
 use Rattle.sour_syntax.specs.Labels.{label_at, IsPlaceOf}
 use Rattle.sour_syntax.specs.Program.{ProgramView}
 use Rattle.sour_syntax.specs.Scopes.{Scope, HasScope, scope_with}
-use Rattle.sour_syntax.specs.Targets.{named_body, scope_of_names, IsNamed, Lands}
+use Rattle.sour_syntax.specs.Targets.{scope_of_names, IsNamed, Lands}
 use Rattle.sour_syntax.proofs.Everywhere.{AllByRecursion-append}
 use Rattle.sour_syntax.proofs.Following.{label_at-IsPlaceOf, IsPlaceOf-within}
 use Rattle.sour_syntax.proofs.LabelPlaces.{EndsInTerminator-from}
 use Rattle.sour_semantics.specs.State as state
 use Rattle.sour_semantics.specs.State.{Environment, Heap, State}
-use Rattle.sour_semantics.specs.Evaluation.{eval, eval_each, in_front}
+use Rattle.sour_semantics.specs.Evaluation.{eval_each, in_front}
 use Rattle.sour_semantics.specs.Step.{body_at, body_of, body_or_empty, exit_code, bound, landed, landed_frames, given, replaces_top, leaves, takes_turn}
 use Rattle.sour_semantics.specs.Validity.{scope_of}
 use Rattle.sour_semantics.proofs.Environments.{length-bound, scope_of-landed}
 use Rattle.sour_machine.specs.declared.activation.Activation.{Activation}
 use Rattle.sour_machine.specs.declared.activation.Waiting.{Waiting}
 use Rattle.sour_machine.specs.declared.frame.FrameCode.{FrameCode}
+use Rattle.sour_machine.specs.declared.frame.FrameCode.TheVariants as frame_code
 use Rattle.sour_machine.specs.declared.leaving.Landed.{Landed}
 use Rattle.sour_machine.specs.declared.moment.Moment.{Moment}
 use Rattle.sour_machine.specs.Frame.{code_of, frame_lines, frame_at, waiting_at, StandsAtLine, StandsWaiting}
@@ -40,6 +39,8 @@ use Rattle.sour_machine.specs.Instruction.{LeavesBy}
 use Rattle.sour_machine.specs.Landing.{continuation, made_frames, StandsFor}
 use Rattle.sour_machine.specs.Leaving.{bound_row}
 use Rattle.sour_machine.specs.Moment.{state_at}
+use Rattle.laws_validity.proofs.Bodies.{NamesBelow-text, Leads, Leads-lands}
+use Rattle.laws_validity.proofs.Leaving.{IfOk-count, counted}
 
 -- from a place of a list on stand the element at it and those from the next place on
 drop-at : {X : Type 0} (xs : List X) (place : ℕ) (other : X) → place < length xs → drop place xs ≡ get_or xs place other ∷ drop (place + 1) xs
@@ -55,23 +56,6 @@ abbrev pub IsBoundOnto : Environment → Heap → List Bind → Result Environme
 IsBoundOnto environment heap binds whole row place =
     whole ≡ bound_onto row (bound_names (drop place binds)) (eval_each environment heap (bound_values (drop place binds)))
 
--- a map whose first value is known makes of a row what its rest makes of the row with that value
-bound_onto-value : (row : Environment) (names : List VarId) (x : VarId) (value : Value) (others : Result (List Value) Trap)
-    → bound_onto row (x ∷ names) (in_front (Ok value) others) ≡ bound_onto (set row x.0 (Some value)) names others
-bound_onto-value row names x value (Ok values) = refl
-bound_onto-value row names x value (Err trap) = refl
-
--- one bind more
-pub IsBoundOnto-next : (environment : Environment) (heap : Heap) (binds : List Bind) (whole : Result Environment Trap) (row : Environment) (place : ℕ) (other : Bind) (value : Value) → place < length binds
-    → eval environment heap (get_or binds place other).value ≡ Ok value → IsBoundOnto environment heap binds whole row place → IsBoundOnto environment heap binds whole (set row (get_or binds place other).name.0 (Some value)) (place + 1)
-IsBoundOnto-next environment heap binds whole row place other value within evaluated so_far =
-    let bind = get_or binds place other in
-    let rest : List Bind = drop (place + 1) binds in
-    so_far
-    ∙ ap (λ (some : List Bind). bound_onto row (bound_names some) (eval_each environment heap (bound_values some))) (drop-at binds place other within)
-    ∙ ap (λ first. bound_onto row (bind.name ∷ bound_names rest) (in_front first (eval_each environment heap (bound_values rest)))) evaluated
-    ∙ bound_onto-value row (bound_names rest) bind.name value (eval_each environment heap (bound_values rest))
-
 -- what holds of each name of a map holds of the one at a place
 name_at : (P : VarId → Type 0) (binds : List Bind) (place : ℕ) (other : Bind) → place < length binds → AllByRecursion P (bound_names binds) → P (get_or binds place other).name
 name_at P [] place other within all = absurd (omega arith)
@@ -84,109 +68,110 @@ pub name_within : (row : Environment) (count : ℕ) (binds : List Bind) (place :
 name_within row count binds place other within all counts =
     let Within : VarId → Type 0 = λ x. x.0 < count in omega (arith, counts, name_at Within binds place other within all)
 
--- the values of which a row was made
-bound_row-values : (count : ℕ) (names : List VarId) (evaluated : Result (List Value) Trap) (row : Environment) → bound_row count names evaluated ≡ Ok row
-    → (values : List Value) × (evaluated ≡ Ok values) × (row ≡ bound (replicate count None) names values)
-bound_row-values count names (Ok values) row is = (values, refl, cc)
-bound_row-values count names (Err trap) row is = cc
-
--- a value in front of so many others makes one more, if none of them is a trap
-counted_in_front : (first : Result Value Trap) (others : Result (List Value) Trap) (count : ℕ) (values : List Value) → ((some : List Value) → others ≡ Ok some → length some ≡ count)
-    → in_front first others ≡ Ok values → length values ≡ suc count
-counted_in_front (Ok value) (Ok some) count values each is =
-    let inner : length some ≡ count = each some refl in
-    let same : value ∷ some ≡ values = cc in
-    sym (ap length same) ∙ ap suc inner
-counted_in_front (Ok value) (Err trap) count values each is = cc
-counted_in_front (Err trap) others count values each is = cc
-
--- there are as many values as expressions
-length-eval_each : (environment : Environment) (heap : Heap) (es : List Expr) (values : List Value) → eval_each environment heap es ≡ Ok values → length values ≡ length es
-length-eval_each environment heap [] values is = let same : [] ≡ values = cc in sym (ap length same)
-length-eval_each environment heap (e ∷ es) values is =
-    counted_in_front (eval environment heap e) (eval_each environment heap es) (length es) values (length-eval_each environment heap es) is
-
 -- where the values of a map were evaluated, there are as many as it has names
-pub length-bound_values : (environment : Environment) (heap : Heap) (binds : List Bind) (values : List Value) → eval_each environment heap (bound_values binds) ≡ Ok values → length values ≡ length (bound_names binds)
+pub length-bound_values : (environment : Environment) (heap : Heap) (binds : List Bind) (values : List Value)
+    → eval_each environment heap (bound_values binds) ≡ Ok values → length values ≡ length (bound_names binds)
 length-bound_values environment heap binds values is =
-    length-eval_each environment heap (bound_values binds) values is ∙ length-map binds (λ (bind : Bind). bind.value) ∙ sym (length-map binds (λ (bind : Bind). bind.name))
+    let Counts : Result (List Value) Trap → Type 0 =
+    λ r. IfOk r (λ values. length values ≡ length (bound_names binds)) in
+    subst Counts is
+    (counted (eval_each environment heap (bound_values binds)) binds (IfOk-count environment heap (bound_values binds)))
 
--- the body of the code that an exit of the text names
-pub body_at-exit : (program : ProgramView) (code : state.FrameCode) (target : Code) (to : state.FrameCode) (body : BodyView) → exit_code code target ≡ to → named_body program.functions [] target ≡ Some body
-    → body_at program to ≡ Some body
-body_at-exit program code (Text f version) to body is found = ap (body_at program) (sym is) ∙ found
-body_at-exit program code (Made zero) to body is found = cc
-body_at-exit program code (Made (suc place)) to body is found = cc
-
--- what an exit makes of its values, as the code has it
-pub record Makes (program : ProgramView) (code : FrameCode) (target : Target) (binds : List Bind) (body : BodyView) (values : List Value) (frame : Activation) : Type 0 where
-  pub exits : exit_code (code_of code) target.code ≡ code_of frame.code
+-- a frame is what an exit of another one makes, as the code has it
+pub record Makes (program : ProgramView) (from : Activation) (heap : Heap) (target : Target) (binds : List Bind)
+    (body : BodyView) (frame : Activation) : Type 0 where
+  pub values : List Value
+  pub evaluated : eval_each from.env heap (bound_values binds) ≡ Ok values
+  pub exits : exit_code (code_of from.code) target.code ≡ code_of frame.code
   pub runs : body_at program (code_of frame.code) ≡ Some body
   pub place : IsPlaceOf body.lines target.label frame.place
   pub row : frame.env ≡ bound (replicate (length body.variables) None) (bound_names binds) values
 
--- a frame with a row that was bound
-pub Makes-bound : (program : ProgramView) (code : FrameCode) (target : Target) (binds : List Bind) (body : BodyView) (frame : Activation) (count : ℕ) (evaluated : Result (List Value) Trap)
-    → exit_code (code_of code) target.code ≡ code_of frame.code → Some body ≡ body_at program (code_of frame.code) → IsPlaceOf body.lines target.label frame.place → count ≡ length body.variables
-    → bound_row count (bound_names binds) evaluated ≡ Ok frame.env → (values : List Value) × (evaluated ≡ Ok values) × Makes program code target binds body values frame
-Makes-bound program code target binds body frame count evaluated exits runs place counts is =
-    let made : (values : List Value) × (evaluated ≡ Ok values) × (frame.env ≡ bound (replicate count None) (bound_names binds) values) =
-    bound_row-values count (bound_names binds) evaluated frame.env is in
-    let makes : Makes program code target binds body made.0 frame = record {
+-- a frame with a row that was bound is
+pub Makes-bound : (program : ProgramView) (from : Activation) (heap : Heap) (target : Target) (binds : List Bind)
+    (body : BodyView) (frame : Activation) (count : ℕ) (evaluated : Result (List Value) Trap)
+    → eval_each from.env heap (bound_values binds) ≡ evaluated
+    → exit_code (code_of from.code) target.code ≡ code_of frame.code
+    → Some body ≡ body_at program (code_of frame.code) → IsPlaceOf body.lines target.label frame.place
+    → count ≡ length body.variables → bound_row count (bound_names binds) evaluated ≡ Ok frame.env
+    → Makes program from heap target binds body frame
+Makes-bound program from heap target binds body frame count (Err trap) is exits runs place counts made = cc
+Makes-bound program from heap target binds body frame count (Ok values) is exits runs place counts made =
+    let row : frame.env ≡ bound (replicate count None) (bound_names binds) values = cc in
+    record {
+      values = values;
+      evaluated = is;
       exits = exits;
       runs = sym runs;
       place = place;
-      row = made.2 ∙ ap (λ count. bound (replicate count None) (bound_names binds) made.0) counts;
-    } in
-    (made.0, made.1, makes)
+      row = row ∙ ap (λ count. bound (replicate count None) (bound_names binds) values) counts;
+    }
 
 -- it is the frame that the exit makes in the language
-pub landed-Makes : (program : ProgramView) (code : FrameCode) (target : Target) (binds : List Bind) (body : BodyView) (values : List Value) (frame : Activation) (evaluated : Result (List Value) Trap) (waits : Option ℕ)
-    → Makes program code target binds body values frame → evaluated ≡ Ok values
-    → landed program (code_of code) (continuation target binds waits) evaluated ≡ Ok (frame_at program frame waits)
-landed-Makes program code target binds body values frame evaluated waits makes is =
-    let counted : length (body_of program (exit_code (code_of code) target.code)).variables ≡ length body.variables =
-    ap (λ to. length (body_of program to).variables) makes.exits ∙ ap (λ found. length (body_or_empty found).variables) makes.runs in
-    let row : bound (replicate (length (body_of program (exit_code (code_of code) target.code)).variables) None) (bound_names binds) values ≡ frame.env =
-    ap (λ count. bound (replicate count None) (bound_names binds) values) counted ∙ sym makes.row in
+pub landed-Makes : (program : ProgramView) (from : Activation) (heap : Heap) (target : Target) (binds : List Bind)
+    (body : BodyView) (frame : Activation) (waits : Option ℕ) → Makes program from heap target binds body frame
+    → landed program (code_of from.code) (continuation target binds waits)
+    (eval_each from.env heap (bound_values binds))
+    ≡ Ok (frame_at program frame waits)
+landed-Makes program from heap target binds body frame waits makes =
+    let to = exit_code (code_of from.code) target.code in
+    let counted : length (body_of program to).variables ≡ length body.variables =
+    ap (λ to. length (body_of program to).variables) makes.exits
+    ∙ ap (λ found. length (body_or_empty found).variables) makes.runs in
+    let row : bound (replicate (length (body_of program to).variables) None) (bound_names binds) makes.values
+    ≡ frame.env =
+    ap (λ count. bound (replicate count None) (bound_names binds) makes.values) counted ∙ sym makes.row in
     let label : label_at (frame_lines program frame) frame.place ≡ target.label =
-    ap (λ found. label_at (body_or_empty found).lines frame.place) makes.runs ∙ label_at-IsPlaceOf body.lines target.label frame.place makes.place in
-    let make : state.FrameCode → List ℕ → Environment → state.Frame = λ code label row. record { code = code; label = label; environment = row; waits = waits } in
-    ap (landed program (code_of code) (continuation target binds waits)) is
-    ∙ ap (λ row. Ok (make (exit_code (code_of code) target.code) target.label row)) row
+    ap (λ found. label_at (body_or_empty found).lines frame.place) makes.runs
+    ∙ label_at-IsPlaceOf body.lines target.label frame.place makes.place in
+    let make : state.FrameCode → List ℕ → Environment → state.Frame =
+    λ code label row. record { code = code; label = label; environment = row; waits = waits } in
+    ap (landed program (code_of from.code) (continuation target binds waits)) makes.evaluated
+    ∙ ap (λ row. Ok (make to target.label row)) row
     ∙ ap (λ to. Ok (make to target.label frame.env)) makes.exits
     ∙ ap (λ label. Ok (make (code_of frame.code) label frame.env)) (sym label)
 
+-- where a continuation of a version lands it leads
+Leads-version : (program : ProgramView) (code : FrameCode) (continuation : Continuation)
+    → Lands program.functions [] continuation
+    → Leads program (code_of code) continuation
+Leads-version program (frame_code.Text function version) continuation lands =
+    Leads-lands program (state.text function version) [] continuation
+    (NamesBelow-text program function version continuation.target.code) lands
+
 -- it stands at its line, and what it waits for has its place
-pub StandsFor-Makes : (program : ProgramView) (code : FrameCode) (target : Target) (binds : List Bind) (body : BodyView) (values : List Value) (frame : Activation) (waits : Option ℕ)
-    → Makes program code target binds body values frame → length values ≡ length (bound_names binds)
-    → IsNamed program.functions [] (continuation target binds waits) → Lands program.functions [] (continuation target binds waits) → StandsFor program waits frame
-StandsFor-Makes program code target binds body values frame waits makes counts named lands =
+pub StandsFor-Makes : (program : ProgramView) (from : Activation) (heap : Heap) (target : Target) (binds : List Bind)
+    (body : BodyView) (frame : Activation) (waits : Option ℕ) → Makes program from heap target binds body frame
+    → Lands program.functions [] (continuation target binds waits) → StandsFor program waits frame
+StandsFor-Makes program from heap target binds body frame waits makes lands =
     let names = bound_names binds in
-    let found : named_body program.functions [] target.code ≡ Some body =
-    named.found ∙ sym (body_at-exit program (code_of code) target.code (code_of frame.code) named.body makes.exits named.found) ∙ makes.runs in
-    let same_named : Some named.body ≡ Some body = sym named.found ∙ found in
-    let named_is : named.body ≡ body = cc in
-    let same_lands : Some lands.body ≡ Some body = sym lands.found ∙ found in
-    let lands_is : lands.body ≡ body = cc in
-    let row : length frame.env ≡ length body.variables =
-    ap length makes.row ∙ length-bound (replicate (length body.variables) None) names values ∙ length-replicate (length body.variables) None in
-    let scope : scope_of frame.env ≡ scope_of_names (length body.variables) names = ap scope_of makes.row ∙ scope_of-landed (length body.variables) names values counts in
-    let Path : BodyView → Type 0 = λ body. HasScope body lands.count target.label (scope_with waits (scope_of_names (length body.variables) names)) in
-    let At : List ℕ → Type 0 = λ label. HasScope body lands.count label (scope_with waits (scope_of_names (length body.variables) names)) in
-    let With : Scope → Type 0 = λ scope. HasScope body lands.count (label_at body.lines frame.place) (scope_with waits scope) in
-    let Within : ℕ → Type 0 = λ count. IfSome waits (λ x. x < count) in
-    let named_within : Within (length body.variables) = subst Within (ap (λ (body : BodyView). length body.variables) named_is) named.result in
+    let leads = Leads-version program from.code (continuation target binds waits) lands in
+    let same : leads.body ≡ body =
+    same_Some leads.body body (sym leads.names.found ∙ ap (body_at program) makes.exits ∙ makes.runs) in
+    let count = length body.variables in
+    let scope : scope_of frame.env ≡ scope_of_names count names =
+    ap scope_of makes.row
+    ∙ scope_of-landed count names makes.values (length-bound_values from.env heap binds makes.values makes.evaluated) in
+    let row : length frame.env ≡ count =
+    ap length makes.row ∙ length-bound (replicate count None) names makes.values ∙ length-replicate count None in
+    let Path : BodyView → Type 0 =
+    λ body. HasScope body leads.count target.label (scope_with waits (scope_of_names (length body.variables) names)) in
+    let At : List ℕ → Scope → Type 0 = λ label scope. HasScope body leads.count label (scope_with waits scope) in
+    let path : At target.label (scope_of_names count names) = subst Path same leads.path in
+    let Placed : ℕ → Type 0 = λ count. IfSome waits (λ x. x < count) in
     record {
       at_line = record {
         body = body;
         runs = makes.runs;
-        line = λ terminated. EndsInTerminator-from body.lines frame.place (IsPlaceOf-within body.lines target.label frame.place makes.place) terminated;
-        count = lands.count;
-        path = subst With (sym scope) (subst At (sym (label_at-IsPlaceOf body.lines target.label frame.place makes.place)) (subst Path lands_is lands.path));
+        line = EndsInTerminator-from body.lines frame.place
+            (IsPlaceOf-within body.lines target.label frame.place makes.place);
+        count = leads.count;
+        path = subst (λ label. At label (scope_of frame.env))
+            (sym (label_at-IsPlaceOf body.lines target.label frame.place makes.place))
+            (subst (At target.label) (sym scope) path);
         row = row;
       };
-      place = subst Within (sym row) named_within;
+      place = subst Placed (ap (λ (body : BodyView). length body.variables) same ∙ sym row) leads.waits;
     }
 
 -- a frame that stands at its line and waits for a variable stands there as a waiting frame with that result
@@ -204,7 +189,7 @@ IsNamed-none program target binds waits named = record {
   result = tt {0};
 }
 
--- frames that were made, and others behind them, if those were made
+-- frames that were made, and others after them, if those were made
 abbrev pub behind_frames : List state.Frame → Result (List state.Frame) Trap → Result (List state.Frame) Trap
 behind_frames done (Ok frames) = Ok (done ++ frames)
 behind_frames done (Err trap) = Err trap
@@ -285,8 +270,3 @@ LeavesBy-left program old made top extras = record {
   below = λ all. AllByRecursion-append (StandsWaiting program) old.below (reverse made.extras) all (All-reverse (StandsWaiting program) made.extras extras);
   calls = refl;
 }
-
--- what holds where it went well holds there of what follows from it
-pub OnOk-weaker : {T E : Type 0} (result : Result T E) (P Q : Type 0) → (P → Q) → OnOk result P → OnOk result Q
-OnOk-weaker (Ok value) P Q follows holds = follows holds
-OnOk-weaker (Err error) P Q follows holds = holds

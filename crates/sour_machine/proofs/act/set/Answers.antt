@@ -1,22 +1,9 @@
-use Rattle.std.proofs.Common.{None, ◌+◌, [], Some, refl, sym, ap, ◌∙◌, ◌∷◌, arith}
+use Rattle.std.proofs.Common.{◌+◌, [], Some, refl, ◌∙◌, ◌∷◌, arith}
 use Rattle.sour_syntax.specs.declared.instruction.Instr.TheVariants.{Var, Assign}
-use Rattle.sour_semantics.specs.State.{Environment}
-use Rattle.sour_semantics.specs.Step.{text_choice}
-use Rattle.sour_syntax.specs.Labels.{label_at}
 use Rattle.sour_syntax.proofs.NamedScopes.{set-same}
-use Rattle.sour_machine.specs.Frame.{frame_at, frame_lines}
-use Rattle.sour_machine.specs.Moment.{state_at}
 use Rattle.sour_semantics.specs.Validity.{scope_of}
-use Rattle.sour_machine.proofs.Instructions.{act-set, act-set-trap}
 use Rattle.sour_machine.proofs.Scopes.{scope_of-set, row-set, ComesTo-going}
 use Rattle.sour_machine.proofs.act.set.Goals as goal
-
-pub returns-in-Ok-clause-acts : goal.returns-in-Ok-clause-acts
-returns-in-Ok-clause-acts c = λ program input.
-    let old = c.args.moment.now in
-    ap (λ (env : Environment). state_at program input (record old { frame = record old.frame { place = old.frame.place + 1; env = env } })) c.set.ensures
-    ∙ sym (act-set program text_choice (frame_at program old.frame None) c.args.expr.now (label_at (frame_lines program old.frame) (old.frame.place + 1)) (state_at program input old)
-    c.in-Ok.value (c.eval.ensures ∙ c.in-Ok.is) c.args.x)
 
 pub returns-in-Ok-clause-declares : goal.returns-in-Ok-clause-declares
 returns-in-Ok-clause-declares c =
@@ -35,9 +22,3 @@ returns-in-Ok-clause-assigns c = λ there.
       scope = scope_of-set old.frame.env c.set.new.self c.args.x.0 (Some c.in-Ok.value) c.set.ensures ∙ set-same (scope_of old.frame.env) c.args.x.0 there;
       row = row-set old.frame.env c.set.new.self c.args.x.0 (Some c.in-Ok.value) c.set.ensures;
     })
-
-pub returns-in-Err-clause-acts : goal.returns-in-Err-clause-acts
-returns-in-Err-clause-acts c = λ program input.
-    let old = c.args.moment.now in
-    sym (act-set-trap program text_choice (frame_at program old.frame None) c.args.expr.now (label_at (frame_lines program old.frame) (old.frame.place + 1)) (state_at program input old)
-    c.in-Err.trap (c.eval.ensures ∙ c.in-Err.is) c.args.x)

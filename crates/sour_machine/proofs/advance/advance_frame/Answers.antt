@@ -5,7 +5,7 @@ use Rattle.sour_syntax.specs.Program.{ProgramView}
 use Rattle.sour_machine.specs.contracts.advance.Pause.{the_type}
 use Rattle.sour_machine.specs.declared.advance.Pause.TheVariants.{Crossing}
 use Rattle.sour_machine.specs.declared.moment.Moment.{Moment}
-use Rattle.sour_machine.proofs.Advances.{IsNamed-line, Lands-line, WantsMemory-line}
+use Rattle.sour_machine.proofs.Advances.{plain-at, IsReady-line, IsNamed-line, Lands-line, WantsMemory-line}
 use Rattle.sour_machine.proofs.CallLaws.{Crossed, Crossed-line, Stands-crossed, GoesOn-crossed, ReadsCrossing, ReadsCrossing-lines, turns-crossing}
 use Rattle.sour_machine.proofs.FrameLaws.{HasPlaces-standing}
 use Rattle.sour_machine.proofs.RunLaws.{OnErr-any}
@@ -21,19 +21,23 @@ reads : (c : After-lines) (default : Line) → LineRead c.args.program.now c.arg
 reads c default =
     let pause : c.in_ok-pause.pause ≡ Crossing = same_true the_type (search rules) _ _ (sym c.if-eq.ensures) in
     ReadsCrossing-lines c.args.program.now c.args.input.now c.args.budget c.args.moment.now c.advance_in_frame.new.moment c.in-Some.body.now c.lines.result.now default c.requires.checked
-    c.advance_in_frame.ensures.code c.in-Some.ensures c.lines.ensures.value c.lines.ensures.labels c.lines.ensures.end c.lines.ensures.scopes c.lines.ensures.mentions
+    c.advance_in_frame.ensures.code c.in-Some.ensures c.lines.ensures.value
     (c.advance_in_frame.ensures.crossing (c.in_ok-pause.was ∙ ap Ok pause)) c.advance_in_frame.ensures.stands
 
 -- it takes a turn
 turns : (c : In_ok-cross) → LineRead c.args.program.now c.args.budget c.advance_in_frame.new.moment c.lines.result.now c.index-lines-moment.result → c.cross.new.moment.turns ≡ c.advance_in_frame.new.moment.turns + 1
 turns c read = turns-crossing c.args.program.now c.args.input.now c.advance_in_frame.new.moment c.cross.new.moment _ read.at read.crosses (c.in_ok-cross.ensures.acts c.args.input.now)
 
--- and what holds of a run behind it
+-- and what holds of a run after it
 crossed : (c : In_ok-cross) → LineRead c.args.program.now c.args.budget c.advance_in_frame.new.moment c.lines.result.now c.index-lines-moment.result → Crossed c.args.program.now c.args.input.now c.advance_in_frame.new.moment c.cross.new.moment
-crossed c read = Crossed-line c.args.program.now c.args.input.now c.advance_in_frame.new.moment c.cross.new.moment _ read.at read.ready c.in_ok-cross.ensures.stands c.advance_in_frame.ensures.stands
+crossed c read =
+    Crossed-line c.args.program.now c.args.input.now c.advance_in_frame.new.moment c.cross.new.moment _ read.at
+    c.in_ok-cross.ensures.stands c.advance_in_frame.ensures.stands
 
 pub cross-requires-clause-ready : goal.cross-requires-clause-ready
-cross-requires-clause-ready c = (reads (goal.at.cross-requires-clause-ready c).After-lines c.index-lines-moment.result).ready
+cross-requires-clause-ready c =
+    let read = reads (goal.at.cross-requires-clause-ready c).After-lines c.index-lines-moment.result in
+    IsReady-line c.args.program.now c.advance_in_frame.new.moment _ read.at
 
 pub cross-requires-clause-stands : goal.cross-requires-clause-stands
 cross-requires-clause-stands c =
@@ -41,17 +45,19 @@ cross-requires-clause-stands c =
     record { line = get_or c.lines.result.now c.advance_in_frame.new.moment.frame.place c.index-lines-moment.result; found = read.at.found; is = refl }
 
 pub cross-requires-clause-plain : goal.cross-requires-clause-plain
-cross-requires-clause-plain c = (reads (goal.at.cross-requires-clause-plain c).After-lines c.index-lines-moment.result).at.plain
+cross-requires-clause-plain c =
+    let read = reads (goal.at.cross-requires-clause-plain c).After-lines c.index-lines-moment.result in
+    plain-at c.args.program.now c.advance_in_frame.new.moment _ read.at
 
 pub cross-requires-clause-named : goal.cross-requires-clause-named
 cross-requires-clause-named c =
     let read = reads (goal.at.cross-requires-clause-named c).After-lines c.index-lines-moment.result in
-    IsNamed-line c.args.program.now c.advance_in_frame.new.moment _ c.requires.checked read.at read.stands
+    IsNamed-line c.args.program.now c.advance_in_frame.new.moment _ read.at
 
 pub cross-requires-clause-lands : goal.cross-requires-clause-lands
 cross-requires-clause-lands c =
     let read = reads (goal.at.cross-requires-clause-lands c).After-lines c.index-lines-moment.result in
-    Lands-line c.args.program.now c.advance_in_frame.new.moment _ c.requires.checked read.at read.stands
+    Lands-line c.args.program.now c.advance_in_frame.new.moment _ read.at
 
 pub cross-requires-clause-places : goal.cross-requires-clause-places
 cross-requires-clause-places c = HasPlaces-standing c.args.program.now c.advance_in_frame.new.moment.below c.advance_in_frame.ensures.stands.below

@@ -5,13 +5,7 @@ use Rattle.sour_syntax.specs.Exits.{exit_values}
 use Rattle.sour_syntax.specs.Scopes.{IsInScope, needed, variables_of_each}
 use Rattle.sour_syntax.proofs.Everywhere.{AllByRecursion-parts}
 use Rattle.sour_semantics.specs.Validity.{scope_of}
-use Rattle.sour_machine.specs.Leaving.{StandsAtInstr}
 use Rattle.sour_machine.proofs.calls.cross.Goals as goal
-
-pub leave_by-requires-clause-stands : goal.leave_by-requires-clause-stands
-leave_by-requires-clause-stands c =
-    let Stands : Instr → Type 0 = StandsAtInstr c.args.program.now c.args.moment.now.frame in
-    (c.in-Assume.field-0, subst Stands c.in-Assume.is c.requires.stands)
 
 pub leave_by-requires-clause-values : goal.leave_by-requires-clause-values
 leave_by-requires-clause-values c =
