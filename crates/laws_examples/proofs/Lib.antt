@@ -1,0 +1,6 @@
+mod WholeRuns
+mod ScopeRows
+mod BundleShape
+mod NearMisses
+mod AreaLawful
+mod Unlawful

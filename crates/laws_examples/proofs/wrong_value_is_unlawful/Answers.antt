@@ -1,0 +1,5 @@
+use Rattle.laws_examples.proofs.Unlawful.{wrong_value_is_unlawful}
+use Rattle.laws_examples.proofs.wrong_value_is_unlawful.Goals as goal
+
+pub returns : goal.returns
+returns c = wrong_value_is_unlawful
