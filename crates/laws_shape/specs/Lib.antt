@@ -1,0 +1,5 @@
+pub mod MadeLines
+pub mod Paths
+pub mod Relined
+pub mod Spliced
+pub mod Laws

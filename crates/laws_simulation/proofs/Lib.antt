@@ -1,0 +1,17 @@
+pub mod Effects
+pub mod Onward
+pub mod Following
+pub mod Tied
+pub mod LawfulRuns
+pub mod Instructions
+pub mod Carried
+pub mod Landed
+pub mod GoesOn
+pub mod CarriedSteps
+pub mod FoundLines
+pub mod Relined
+pub mod Tops
+pub mod TopRuns
+pub mod FactRuns
+pub mod Predicates
+pub mod Injected

@@ -1,0 +1,14 @@
+pub mod Effect
+pub mod Onward
+pub mod Following
+pub mod Ties
+pub mod Carry
+pub mod Carries
+pub mod Instructions
+pub mod Relined
+pub mod Spliced
+pub mod Tops
+pub mod Facts
+pub mod Anchors
+pub mod Inject
+pub mod Laws
