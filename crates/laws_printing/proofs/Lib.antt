@@ -1,0 +1,13 @@
+pub mod Longest
+pub mod TextTokens
+pub mod Apart
+pub mod Words
+pub mod ApartPieces
+pub mod Says
+pub mod Variables
+pub mod SpelledInstructions
+pub mod SaysLines
+pub mod SpelledJobs
+pub mod ReadsAsItself
+pub mod Examples
+pub mod Joined

@@ -1,0 +1,5 @@
+pub mod Pieces
+pub mod Text
+pub mod Numbered
+pub mod Laws
+pub mod Examples

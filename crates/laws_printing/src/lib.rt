@@ -1,0 +1,46 @@
+//! Laws about the canonical text of functions. Each is the contract of a function that does nothing;
+//! the proofs go by the definitions of `sour_lexer` and `sour_raw`, and by the pieces that this crate
+//! defines.
+#![tactic(auto)]
+
+ghost use Rattle.laws_printing.specs.Examples.{AreSpelledSo, IsTextSpelledSo};
+ghost use Rattle.laws_printing.specs.Laws.{BytesAreJoined, PiecesAreTokens, PiecesAreApart, PiecesSpell, ReadsAsItself};
+
+/// The bytes of pieces are those of their parts, one after the other, and so are those of lines.
+pub fn bytes_are_joined()
+    ensures { BytesAreJoined }
+{}
+
+/// Pieces of which none is made longer by what is written after it are read as their tokens, at the
+/// places that the text gives.
+pub fn pieces_are_tokens()
+    ensures { PiecesAreTokens }
+{}
+
+/// The pieces of a raw job that is written as a text must be are such pieces.
+pub fn pieces_are_apart()
+    ensures { PiecesAreApart }
+{}
+
+/// The tokens of the canonical text of a raw job spell it, if it is written as a text must be, is
+/// within the limits, has functions alone, and has the line numbers of that text.
+pub fn pieces_spell()
+    ensures { PiecesSpell }
+{}
+
+/// The canonical text of a raw job reads as that raw job, if it is written as a text must be, is
+/// within the limits, has functions alone, and has the line numbers of that text.
+pub fn reads_as_itself()
+    ensures { ReadsAsItself }
+{}
+
+/// The blanks of the canonical text stand where the examples have them.
+pub fn instructions_are_spelled_so()
+    ensures { AreSpelledSo }
+{}
+
+/// So do its lines; their numbers are those that the raw job has, and the text reads as that raw
+/// job.
+pub fn text_is_spelled_so()
+    ensures { IsTextSpelledSo }
+{}
