@@ -1,0 +1,16 @@
+pub mod OnceLaws
+pub mod Kit
+pub mod VersionRules
+pub mod LiteralRules
+pub mod TargetRules
+pub mod NameStage
+pub mod LabelLaws
+pub mod FineLaws
+pub mod PlaceLists
+pub mod TakingLaws
+pub mod FaultyScopes
+pub mod ScopeStage
+pub mod MaskRules
+pub mod LandRules
+pub mod ExitStage
+pub mod FaultStage
