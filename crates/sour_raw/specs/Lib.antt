@@ -8,6 +8,7 @@ pub mod Names
 pub mod Mentions
 pub mod Variables
 pub mod Limits
+pub mod Order
 pub mod Grammar
 pub mod Expressions
 pub mod Instructions
