@@ -27,3 +27,4 @@ pub mod Readings
 pub mod WrittenJobs
 pub mod Bytes
 pub mod ReadIsWritten
+pub mod LinesInOrder

@@ -5,6 +5,7 @@ use Rattle.sour_raw.specs.declared.kind.Kind.{Kind}
 use Rattle.sour_raw.specs.declared.raw.RawJob.{RawJob}
 use Rattle.sour_raw.specs.Productions.{whole_at}
 use Rattle.sour_raw.specs.Limits.{IsShort}
+use Rattle.sour_raw.specs.Order.{IsInOrder}
 use Rattle.sour_raw.specs.Written.{IsWritten}
 use Rattle.sour_raw.specs.Reads.{ReadsTokens, HasFault, Reads, IsFirstFault}
 
@@ -39,3 +40,7 @@ ReadsExactly =
 -- what a text reads as is made of names, labels, paths and numbers of 64 bits, and is within the limits
 abbrev pub ReadIsWritten : Type 0
 ReadIsWritten = (bytes : List ℕ) (raw : RawJob) → Reads bytes raw → IsWritten raw × IsShort raw
+
+-- the items of what a text reads as stand on lines that ascend in the order of the text
+abbrev pub LinesInOrder : Type 0
+LinesInOrder = (bytes : List ℕ) (raw : RawJob) → Reads bytes raw → IsInOrder raw

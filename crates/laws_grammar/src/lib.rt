@@ -2,7 +2,7 @@
 //! definitions of `sour_lexer` and `sour_raw` alone.
 #![tactic(auto)]
 
-ghost use Rattle.laws_grammar.specs.Laws.{ReadsOnce, FaultsOnce, NeverBoth, ReadsOrFaults, ReadsExactly, ReadIsWritten};
+ghost use Rattle.laws_grammar.specs.Laws.{ReadsOnce, FaultsOnce, NeverBoth, ReadsOrFaults, ReadsExactly, ReadIsWritten, LinesInOrder};
 
 /// A text reads as one raw job at most.
 pub fn reads_once()
@@ -32,4 +32,9 @@ pub fn reads_exactly()
 /// What a text reads as is written as a text must be, and within the limits.
 pub fn read_is_written()
     ensures { ReadIsWritten }
+{}
+
+/// The items of what a text reads as stand on lines that ascend in the order of the text.
+pub fn lines_in_order()
+    ensures { LinesInOrder }
 {}

@@ -8,7 +8,7 @@ use Rattle.std.proofs.lemmas.List.Elements.{All-tail}
 use Rattle.sour_tokens.specs.declared.symbols.Symbol.{Symbol}
 use Rattle.sour_tokens.specs.Byte.{begins_word, continues_word}
 use Rattle.sour_tokens.specs.Symbol.{symbol_spelling}
-use Rattle.sour_tokens.specs.Token.{IsWord, IsDigits, IsSymbol, IsToken}
+use Rattle.sour_tokens.specs.Token.{IsWord, IsDigits, IsToken}
 use Rattle.sour_lexer.specs.declared.tokens.BadByte.{BadByte}
 use Rattle.sour_lexer.specs.Front.{IsLongest, BeginsNone, why_bad}
 use Rattle.sour_lexer.specs.Read.{first_line, after_line}

@@ -9,3 +9,4 @@ pub mod TextRead
 pub mod OneList
 pub mod SomeList
 pub mod TokenLists
+pub mod LinesRise

@@ -1,7 +1,6 @@
 -- The first line of some bytes, and what comes after it.
 use Rattle.std.proofs.Common.{◌≡◌, ℕ, suc, ◌+◌, Bool, true, false, not, List, [], ◌∷◌, ◌++◌, length, take, drop, cond, refl, sym, ap, ◌∙◌, subst, take-append-drop, append_assoc, arith}
 use Rattle.std.specs.List.{All, AllPass, position_or_len, onto_first}
-use Rattle.std.proofs.lemmas.Bool.Decides.{nat_tests}
 use Rattle.std.proofs.lemmas.List.{drop_at}
 use Rattle.std.proofs.lemmas.List.Elements.{All-head, All-tail, All-weaker}
 use Rattle.sour_tokens.specs.Byte.{is_line_feed, is_blank}

@@ -1,21 +1,17 @@
 -- A line, of which the first tokens have been read.
-use Rattle.std.proofs.Common.{◌≡◌, ℕ, ◌+◌, ◌-◌, ◌<◌, ◌≤◌, true, false, List, [], ◌∷◌, ◌++◌, length, get_or, refl, sym, ap, ◌∙◌, subst, length-append, length-drop, append_assoc, arith}
-use Rattle.std.specs.Char.{is_ascii_digit}
-use Rattle.std.proofs.lemmas.Bool.Decides.{nat_tests}
+use Rattle.std.proofs.Common.{◌≡◌, ℕ, ◌+◌, ◌-◌, ◌<◌, ◌≤◌, false, List, [], ◌∷◌, ◌++◌, length, get_or, refl, sym, ap, ◌∙◌, subst, length-append, length-drop, append_assoc, arith}
 use Rattle.std.proofs.lemmas.List.{append-nil, map_push}
 use Rattle.std.proofs.lemmas.List.Sums.{prefix_len-le-length}
-use Rattle.std.proofs.lemmas.List.Elements.{All-nil, All-cons, All-weaker}
-use Rattle.sour_tokens.specs.Byte.{is_line_feed, is_blank, continues_word}
-use Rattle.sour_tokens.specs.Symbol.{symbol_spelling}
+use Rattle.sour_tokens.specs.Byte.{is_blank}
 use Rattle.sour_lexer.specs.declared.tokens.BadByte.{BadByte}
 use Rattle.sour_lexer.specs.declared.tokens.PlacedToken.{PlacedToken}
-use Rattle.sour_lexer.specs.Placed.{Lexeme, Word, Digits, Sign, LineEnd, Bad, Placed, placed, all_placed}
+use Rattle.sour_lexer.specs.Placed.{Lexeme, LineEnd, Bad, Placed, placed, all_placed}
 use Rattle.sour_lexer.specs.Front.{spelling, IsSpelled, blanks, after_blanks, IsLongest, IsTokenThen, IsComment, BeginsNone}
 use Rattle.sour_lexer.specs.TokensOf.{Has, with_line_end, IsWhole, IsCut}
 use Rattle.sour_lexer.specs.Read.{first_line, after_line}
 use Rattle.sour_lexer.proofs.Runs.{Stops, front_stops}
 use Rattle.sour_lexer.proofs.SpelledLaws.{in_line}
-use Rattle.sour_lexer.proofs.LineLaws.{HasNoLineFeed, cut_after_front, whole_line, longest_in_line, blanks_of_line}
+use Rattle.sour_lexer.proofs.LineLaws.{cut_after_front, whole_line, longest_in_line, blanks_of_line}
 
 -- a token at a place
 abbrev pub token_at : Lexeme → ℕ → ℕ → Placed

@@ -1,15 +1,10 @@
 -- A text has one list of tokens.
-use Rattle.std.proofs.Common.{◌≡◌, ℕ, ◌+◌, true, false, List, [], ◌∷◌, ◌++◌, length, eqb, cond, get_or, Option, Some, None, refl, sym, ap, ◌∙◌, subst, inl, inr, ⊎_elim, append-nil, arith}
+use Rattle.std.proofs.Common.{◌≡◌, ℕ, ◌+◌, List, [], ◌∷◌, ◌++◌, length, refl, sym, ap, ◌∙◌, subst, inl, inr, ⊎_elim, append-nil}
 use Rattle.std.specs.Prelude.{◌⊎◌, ◌↔◌}
-use Rattle.std.specs.Char.{is_ascii_digit}
-use Rattle.std.proofs.lemmas.Bool.Decides.{nat_tests}
-use Rattle.sour_tokens.specs.declared.symbols.Symbol.{Symbol}
-use Rattle.sour_tokens.specs.Byte.{begins_word, continues_word}
 use Rattle.sour_tokens.specs.Token.{IsToken}
-use Rattle.sour_tokens.specs.Symbol.{symbol_spelling}
 use Rattle.sour_lexer.specs.declared.tokens.BadByte.{BadByte}
-use Rattle.sour_lexer.specs.Placed.{Lexeme, Word, Digits, Sign, LineEnd, Bad, Placed}
-use Rattle.sour_lexer.specs.Front.{spelling, IsSpelled, blanks, after_blanks, IsLongest, IsTokenThen, IsComment, HasNoToken, BeginsNone, HasBadByte}
+use Rattle.sour_lexer.specs.Placed.{Lexeme, Bad, Placed}
+use Rattle.sour_lexer.specs.Front.{spelling, blanks, after_blanks, IsLongest, IsTokenThen, IsComment, HasNoToken, BeginsNone, HasBadByte}
 use Rattle.sour_lexer.specs.TokensOf.{Has, with_line_end, IsWhole, IsCut, LinesHave, HasTokens, text_lines}
 use Rattle.sour_lexer.proofs.SpelledLaws.{lexeme_told, told_lexeme, spelled_token, token_no_comment}
 

@@ -1,12 +1,12 @@
 -- What the bytes of a token are like, and that they tell it.
-use Rattle.std.proofs.Common.{◌≡◌, ℕ, ◌<◌, true, false, List, [], ◌∷◌, ◌++◌, length, eqb, cond, get_or, Option, Some, None, refl, sym, ap, ◌∙◌, inl, inr, arith}
+use Rattle.std.proofs.Common.{◌≡◌, ℕ, ◌<◌, true, false, List, [], ◌∷◌, ◌++◌, length, eqb, cond, get_or, Option, Some, None, refl, ap, ◌∙◌, inl, inr, arith}
 use Rattle.std.specs.List.{AllPass}
 use Rattle.std.specs.Char.{is_ascii_digit}
 use Rattle.std.proofs.lemmas.List.Elements.{All-nil, All-cons, All-weaker}
 use Rattle.sour_tokens.specs.declared.symbols.Symbol.{Symbol}
 use Rattle.sour_tokens.specs.Byte.{is_line_feed, begins_word, continues_word}
 use Rattle.sour_tokens.specs.Symbol.{symbol_spelling}
-use Rattle.sour_tokens.specs.Token.{IsWord, IsDigits, IsSymbol, IsToken}
+use Rattle.sour_tokens.specs.Token.{IsSymbol, IsToken}
 use Rattle.sour_lexer.specs.Placed.{Lexeme, Word, Digits, Sign, LineEnd, Bad}
 use Rattle.sour_lexer.specs.Front.{spelling, IsSpelled, IsComment}
 use Rattle.sour_lexer.proofs.ByteLaws.{is_mark, continues-from_begins, continues-from_digit, begins-from_digit, begins-from_continues, digit-from_continues, line_feed-from_continues, comment-from_continues, continues-from_mark, line_feed-from_mark, comment-from_mark}

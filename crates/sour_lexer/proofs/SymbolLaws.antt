@@ -1,13 +1,11 @@
 -- What the bytes of symbols are like, and which symbol some bytes are.
-use Rattle.std.proofs.Common.{◌≡◌, ℕ, Bool, true, false, not, ◌&&◌, List, [], ◌∷◌, eqb, cond, Option, Some, None, refl, sym, ap, ◌∙◌, subst, inl, inr, arith}
+use Rattle.std.proofs.Common.{◌≡◌, ℕ, Bool, true, false, List, [], ◌∷◌, cond, Option, Some, None, refl, sym, ap, ◌∙◌, subst, inl, inr}
 use Rattle.std.specs.Prelude.{◌⊎◌}
 use Rattle.std.specs.List.{find}
 use Rattle.std.specs.Str.{bytes_eq}
-use Rattle.std.proofs.lemmas.Bool.Decides.{nat_tests}
 use Rattle.std.proofs.lemmas.Slice.Eq.{bytes_eq-Decides}
 use Rattle.sour_tokens.specs.declared.symbols.Symbol.{Symbol}
 use Rattle.sour_tokens.specs.declared.symbols.Symbol.TheVariants.{Arrow, EqualEqual, NotEqual, LessEqual, GreaterEqual, AndAnd, OrOr, Less, Greater, Plus, Minus, Star, Slash, Percent, Bang, Equal, OpenParen, CloseParen, OpenBracket, CloseBracket, Comma, Colon, Semicolon, Dot, Ampersand, At}
-use Rattle.sour_tokens.specs.Byte.{is_line_feed, continues_word}
 use Rattle.sour_tokens.specs.Symbol.{symbol_spelling}
 use Rattle.sour_tokens.specs.Token.{IsSymbol}
 use Rattle.sour_lexer.proofs.ByteLaws.{is_mark}
