@@ -1,12 +1,11 @@
 -- What texts read as, and their faults, by their tokens.
-use Rattle.std.proofs.Common.{inl, inr, ◌≡◌, ◌↔◌, ℕ, List, [], Ok, Err, refl, sym, ap, subst, ◌∙◌}
+use Rattle.std.proofs.Common.{inl, inr, ◌≡◌, ℕ, List, refl, sym, ap, subst, ◌∙◌}
 use Rattle.sour_lexer.specs.Placed.{Placed}
 use Rattle.sour_lexer.specs.TokensOf.{HasTokens, Position, text_end}
 use Rattle.sour_lexer.proofs.OneList.{one_list}
 use Rattle.sour_raw.specs.declared.kind.Kind.{Kind}
 use Rattle.sour_raw.specs.declared.raw.RawJob.{RawJob}
-use Rattle.sour_raw.specs.Productions.{whole_at}
-use Rattle.sour_raw.specs.Reads.{ReadsTokens, HasFault, Reads, fault_number, place_of, IsFirstFault}
+use Rattle.sour_raw.specs.Reads.{ReadsTokens, HasFault, Reads, fault_number, place_of}
 use Rattle.laws_grammar.specs.Laws.{ReadsOnce, FaultsOnce, NeverBoth, ReadsOrFaults, ReadsExactly}
 use Rattle.sour_lexer.proofs.SomeList.{some_tokens}
 use Rattle.laws_grammar.proofs.Readings.{reads_or_faults, reads_once, faults_once, never_both, reads_exactly, faults_exactly}
@@ -23,23 +22,23 @@ bytes_read_once bytes raw other a b = reads_once b.tokens raw other (same_reads 
 
 -- the law that it has one first fault at most
 pub bytes_fault_once : FaultsOnce
-bytes_fault_once bytes kind line column kind' line' column' a b =
+bytes_fault_once bytes number line column number' line' column' a b =
     let same : a.tokens ≡ b.tokens = one_list bytes a.tokens b.tokens a.whole b.whole in
-    let one = faults_once b.tokens a.of b.of a.rest b.rest
-    (subst (λ (it : List Placed). HasFault it a.of a.rest) same a.fault) b.fault in
+    let one = faults_once b.tokens a.kind b.kind a.rest b.rest
+    (subst (λ (it : List Placed). HasFault it a.kind a.rest) same a.fault) b.fault in
     let at : place_of (text_end bytes) a.rest ≡ place_of (text_end bytes) b.rest =
     ap (place_of (text_end bytes)) one.1 in
     let place : record { line = line; column = column } ≡ record { line = line'; column = column' } =
     a.place ∙ at ∙ sym b.place in (
-      a.number ∙ ap (λ (it : Kind). fault_number it a.rest) one.0 ∙ ap (fault_number b.of) one.1 ∙ sym b.number,
+      a.told ∙ ap (λ (it : Kind). fault_number it a.rest) one.0 ∙ ap (fault_number b.kind) one.1 ∙ sym b.told,
       ap (λ (it : Position). it.line) place,
       ap (λ (it : Position). it.column) place,
     )
 
 -- the law that it never reads and has a fault
 pub bytes_never_both : NeverBoth
-bytes_never_both bytes raw kind line column reads fault =
-    never_both fault.tokens raw fault.of fault.rest (same_reads bytes fault.tokens raw fault.whole reads) fault.fault
+bytes_never_both bytes raw number line column reads fault =
+    never_both fault.tokens raw fault.kind fault.rest (same_reads bytes fault.tokens raw fault.whole reads) fault.fault
 
 -- the law that it reads or has a fault
 pub bytes_read_or_fault : ReadsOrFaults
@@ -56,10 +55,10 @@ bytes_read_or_fault bytes =
             record {
               tokens = some.0;
               whole = some.1;
-              of = fault.0;
+              kind = fault.0;
               rest = fault.1;
               fault = fault.2;
-              number = refl;
+              told = refl;
               place = refl;
             },
           )
@@ -68,35 +67,3 @@ bytes_read_or_fault bytes =
 -- the law of the reading
 pub tokens_read_exactly : ReadsExactly
 tokens_read_exactly = (reads_exactly, faults_exactly)
-
--- ---- what a reader of the tokens finds
-
--- a text whose tokens are read as a raw job reads as that one alone
-pub found : (bytes : List ℕ) (tokens : List Placed) (raw : RawJob) → HasTokens bytes tokens
-    → whole_at tokens ≡ Ok (raw, [])
-    → (other : RawJob) → Reads bytes other ↔ (other ≡ raw)
-found bytes tokens raw has e other =
-    let spelled : ReadsTokens tokens raw = (reads_exactly tokens raw).1 e in (
-      (λ reads. reads_once tokens other raw (same_reads bytes tokens other has reads) spelled),
-      λ same. record {
-        tokens = tokens;
-        whole = has;
-        spelled = subst (λ (it : RawJob). ReadsTokens tokens it) (sym same) spelled;
-      },
-    )
-
--- where reading the tokens of a text stops is its first fault
-pub faulty : (bytes : List ℕ) (tokens : List Placed) (kind : Kind) (rest : List Placed) (line column : ℕ)
-    → HasTokens bytes tokens
-    → whole_at tokens ≡ Err (kind, rest) → record { line = line; column = column } ≡ place_of (text_end bytes) rest
-    → IsFirstFault bytes (fault_number kind rest) line column
-faulty bytes tokens kind rest line column has e place =
-    record {
-      tokens = tokens;
-      whole = has;
-      of = kind;
-      rest = rest;
-      fault = (faults_exactly tokens kind rest).1 e;
-      number = refl;
-      place = place;
-    }

@@ -13,7 +13,7 @@ use Rattle.laws_grammar.proofs.Kit.{Exact, Any, exact_as, exact_image, out, begi
 use Rattle.laws_grammar.proofs.Leaves.{exact_free, exact_after, exact_ended, headed, Next, next_is}
 use Rattle.laws_grammar.proofs.OneTooMany.{Starts, exact_over, over_after}
 use Rattle.laws_grammar.proofs.Lists.{exact_repeated, exact_listed}
-use Rattle.laws_grammar.proofs.Keys.{begins_items}
+use Rattle.laws_grammar.proofs.Keys.{may_begin_items}
 use Rattle.laws_grammar.proofs.Names.{names_say, name_begins, exact_name, exact_label}
 use Rattle.laws_grammar.proofs.Expressions.{AfterExpr, after_expr, exact_expr}
 
@@ -55,7 +55,7 @@ exact_map names =
     starts names = record {
       starts = λ k b u rest s. begins_first says_name true (name k b.name) (one equal · expr names k b.value)
           (name_begins says_name true is_short names_say k b.name) u rest s;
-      items = begins_items says_name refl;
+      items = may_begin_items says_name refl;
     }
 
 -- the law of a further continuation
@@ -92,7 +92,7 @@ exact_extras names =
           (begins_first says_name true (name k e.target.function)
           (one dot · name k e.target.version · one dot · label k e.target.label)
           (name_begins says_name true is_short names_say k e.target.function)) u rest s;
-      items = begins_items says_name refl;
+      items = may_begin_items says_name refl;
     }
 
 -- the law of an exit

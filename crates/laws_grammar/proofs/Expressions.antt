@@ -21,7 +21,7 @@ use Rattle.sour_raw.specs.Expressions.{says_name, simple_at, says_op, op_at, ope
 use Rattle.laws_grammar.proofs.Kit.{Exact, Any, exact_as, image, exact_image, out, exact_any, exact_weaker, exact_nothing, either, empty, exact_choose, leads, exact_then, Begins, begins_first}
 use Rattle.laws_grammar.proofs.Leaves.{exact_after, exact_ended, headed, Next, next_is}
 use Rattle.laws_grammar.proofs.Lists.{exact_listed}
-use Rattle.laws_grammar.proofs.Keys.{exact_key, ops_found, keys_pass, keys_fail, begins_items}
+use Rattle.laws_grammar.proofs.Keys.{exact_key, ops_found, keys_pass, keys_fail, may_begin_items}
 use Rattle.laws_grammar.proofs.Names.{OfWords, other_word, names_say, name_begins, exact_mention}
 use Rattle.laws_grammar.proofs.Literals.{LiteralTokens, literal_tokens, literal_begins, exact_literal}
 
@@ -264,7 +264,7 @@ pub exact_exprs : (most : ℕ) (closing : Lexeme) → begins_expr closing ≡ fa
 unfolding exprs_at
 exact_exprs most closing none no_other no_op no_bracket names =
     exact_listed begins_expr comma with_expr refl exact_expr
-    (λ names. record { starts = expr_begins begins_expr true exprs_begin names; items = begins_items begins_expr refl })
+    (λ names. record { starts = expr_begins begins_expr true exprs_begin names; items = may_begin_items begins_expr refl })
     (λ rest f. (
       record {
         none = next_is closing begins_expr false none rest f;

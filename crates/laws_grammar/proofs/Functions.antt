@@ -14,7 +14,7 @@ use Rattle.sour_raw.specs.Productions.{lines_at, version_at, versions_at, parame
 use Rattle.laws_grammar.proofs.Kit.{Exact, Any, exact_as, exact_image, out, begins_full}
 use Rattle.laws_grammar.proofs.Leaves.{exact_this, exact_both, exact_free, exact_after, exact_lined, exact_complete, IsNone, headed, Next, next_is}
 use Rattle.laws_grammar.proofs.Lists.{plain_law, exact_repeated, exact_one_or_more, exact_listed}
-use Rattle.laws_grammar.proofs.Keys.{begins_items}
+use Rattle.laws_grammar.proofs.Keys.{may_begin_items}
 use Rattle.laws_grammar.proofs.Names.{names_say, name_begins, exact_name}
 use Rattle.laws_grammar.proofs.Paths.{starts_with}
 use Rattle.laws_grammar.proofs.Lines.{exact_line, lines_begin}
@@ -71,7 +71,7 @@ exact_parameters =
     exact_listed says_name comma alone refl (λ names. exact_name)
     (λ names. record {
       starts = λ k x u rest s. name_begins says_name true is_short names_say k x u rest s;
-      items = begins_items says_name refl;
+      items = may_begin_items says_name refl;
     })
     (λ rest f. (
       record {

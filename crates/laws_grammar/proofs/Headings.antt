@@ -8,7 +8,7 @@ use Rattle.sour_raw.specs.declared.parts.Heading.{Heading}
 use Rattle.sour_raw.specs.declared.parts.Heading.TheVariants.{Label, Target, Array}
 use Rattle.sour_raw.specs.Lexemes.{colon}
 use Rattle.sour_raw.specs.Spelling.{Language}
-use Rattle.sour_raw.specs.Fault.{Same, begins_item, decides}
+use Rattle.sour_raw.specs.Fault.{Same, may_begin_item, decides}
 use Rattle.sour_raw.specs.Words.{Within}
 use Rattle.sour_raw.specs.Names.{is_name, name_of}
 use Rattle.sour_raw.specs.Variables.{fits}
@@ -39,8 +39,8 @@ decided names Target x none = refl
 decided names Array x none = refl
 
 -- a token that says a name begins an item
-name_item : (t : Lexeme) (x : List ℕ) → name_of t ≡ Some x → begins_item t ≡ true
-name_item = of_words is_name begins_item true (λ y is. refl)
+name_item : (t : Lexeme) (x : List ℕ) → name_of t ≡ Some x → may_begin_item t ≡ true
+name_item = of_words is_name may_begin_item true (λ y is. refl)
 
 -- the verdict of a reading of headings
 abbrev HeadingVerdict : List (List ℕ) → List Placed → Type 0

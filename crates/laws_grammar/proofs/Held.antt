@@ -4,22 +4,22 @@ use Rattle.std.specs.Prelude.{⊤}
 use Rattle.std.specs.List.{AllByRecursion}
 use Rattle.sour_syntax.proofs.Everywhere.{AllByRecursion-parts}
 use Rattle.sour_lexer.specs.Placed.{Lexeme, Placed}
-use Rattle.sour_lexer.specs.TokenList.{IsOfItsKind}
+use Rattle.sour_lexer.specs.TokenList.{IsWellFormed}
 use Rattle.sour_raw.specs.declared.kind.Kind.TheVariants.{Limit as limit}
 use Rattle.sour_raw.specs.Spelling.{Tokens, ◌·◌, one, from_line, Language, less, HasRoom, each, after_separator, after_all}
 
--- the bytes of each token are those of its kind
-abbrev pub AreOfKind : List Placed → Type 0
-AreOfKind ts = AllByRecursion (λ (t : Placed). IsOfItsKind t.lexeme) ts
+-- each token is well formed
+abbrev pub EachIsWellFormed : List Placed → Type 0
+EachIsWellFormed ts = AllByRecursion (λ (t : Placed). IsWellFormed t.lexeme) ts
 
 -- some such tokens, which are in the set
 abbrev pub Held : Tokens → Type 0
-Held A = (u : List Placed) × A u × AreOfKind u
+Held A = (u : List Placed) × A u × EachIsWellFormed u
 
 -- the tokens of the first, and those of the second
 pub cut : {A B : Tokens} → Held (A · B) → Held A × Held B
 cut (u, s, known) =
-    let k = AllByRecursion-parts (λ (t : Placed). IsOfItsKind t.lexeme) s.0 s.1 (subst AreOfKind s.2 known) in
+    let k = AllByRecursion-parts (λ (t : Placed). IsWellFormed t.lexeme) s.0 s.1 (subst EachIsWellFormed s.2 known) in
     ((s.0, s.3, k.0), (s.1, s.4, k.1))
 
 -- what stands after a token

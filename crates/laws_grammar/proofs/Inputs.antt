@@ -9,7 +9,7 @@ use Rattle.sour_raw.specs.declared.parts.Section.{Section}
 use Rattle.sour_raw.specs.declared.parts.Section.TheVariants as section
 use Rattle.sour_raw.specs.Lexemes.{percent, is}
 use Rattle.sour_raw.specs.Spelling.{◌·◌, one, each, alone, Language}
-use Rattle.sour_raw.specs.Fault.{begins_item}
+use Rattle.sour_raw.specs.Fault.{may_begin_item}
 use Rattle.sour_raw.specs.Combinators.{next}
 use Rattle.sour_raw.specs.Keys.{keyword, section_token, all_sections}
 use Rattle.sour_raw.specs.Grammar.{no_names, literal, plan_job, plan, input, inputs, optional}
@@ -26,7 +26,7 @@ use Rattle.laws_grammar.proofs.Plan.{job_word, NoJob, exact_plan_jobs}
 -- ---- inputs
 
 -- a literal begins an item
-literal_items : (t : Lexeme) → begins_literal t ≡ true → begins_item t ≡ true
+literal_items : (t : Lexeme) → begins_literal t ≡ true → may_begin_item t ≡ true
 literal_items (Sign Comma) e = absurd cc
 literal_items (Sign Semicolon) e = absurd cc
 literal_items (Sign Arrow) e = absurd cc

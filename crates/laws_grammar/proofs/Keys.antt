@@ -11,7 +11,7 @@ use Rattle.sour_raw.specs.declared.parts.InstrWord.TheVariants as instr
 use Rattle.sour_raw.specs.declared.parts.PassWord.TheVariants as pass
 use Rattle.sour_raw.specs.declared.parts.Section.TheVariants as section
 use Rattle.sour_raw.specs.Lexemes.{comma, semicolon, arrow, open_bracket, is}
-use Rattle.sour_raw.specs.Fault.{begins_item}
+use Rattle.sour_raw.specs.Fault.{may_begin_item}
 use Rattle.sour_raw.specs.Spelling.{one}
 use Rattle.sour_raw.specs.Words.{saying_at}
 use Rattle.sour_raw.specs.Keys.{key_of, op_token, all_ops, truth_token, all_truths, instr_token, all_instr_words, pass_token, all_pass_words, start_token, all_starts, section_token, all_sections}
@@ -133,18 +133,18 @@ never true n e = absurd cc
 never false n e = absurd cc
 
 -- a token that passes a test which each separator fails, and each token that decides, may begin an item
-pub begins_items : (p : Lexeme → Bool)
+pub may_begin_items : (p : Lexeme → Bool)
     → list_all (λ t. not (p t)) (comma ∷ semicolon ∷ arrow ∷ open_bracket ∷ []) ≡ true
-    → (t : Lexeme) → p t ≡ true → begins_item t ≡ true
-begins_items p fail (Sign symbol.Comma) e = absurd (never (p comma) (and_parts (not (p comma)) _ fail).0 e)
-begins_items p fail (Sign symbol.Semicolon) e =
+    → (t : Lexeme) → p t ≡ true → may_begin_item t ≡ true
+may_begin_items p fail (Sign symbol.Comma) e = absurd (never (p comma) (and_parts (not (p comma)) _ fail).0 e)
+may_begin_items p fail (Sign symbol.Semicolon) e =
     absurd (never (p semicolon) (and_parts (not (p semicolon)) _ (and_parts (not (p comma)) _ fail).1).0 e)
-begins_items p fail (Sign symbol.Arrow) e =
+may_begin_items p fail (Sign symbol.Arrow) e =
     absurd (never (p arrow) (and_parts (not (p arrow)) _
     (and_parts (not (p semicolon)) _ (and_parts (not (p comma)) _ fail).1).1).0 e)
-begins_items p fail (Sign symbol.OpenBracket) e =
+may_begin_items p fail (Sign symbol.OpenBracket) e =
     absurd (never (p open_bracket)
     (and_parts (not (p open_bracket)) _
     (and_parts (not (p arrow)) _ (and_parts (not (p semicolon)) _ (and_parts (not (p comma)) _ fail).1).1).1).0
     e)
-begins_items p fail other e = refl
+may_begin_items p fail other e = refl

@@ -4,7 +4,7 @@ use Rattle.sour_lexer.specs.Placed.{Lexeme, Placed}
 use Rattle.sour_raw.specs.declared.kind.Kind.{Kind}
 use Rattle.sour_raw.specs.declared.kind.Kind.TheVariants.{Form as form, Number as number, Limit as limit}
 use Rattle.sour_raw.specs.Spelling.{Tokens, ◌·◌, Language}
-use Rattle.sour_raw.specs.Fault.{earlier, IsLater, Same, IsPlaced, Follows, Reaches, FaultAt}
+use Rattle.sour_raw.specs.Fault.{earlier, Same, IsPlaced, Follows, Reaches, FaultAt}
 use Rattle.sour_raw.specs.Combinators.{Out, Reading, ◌>>=◌, next, leading, mapped, choose, nothing}
 use Rattle.laws_grammar.proofs.Same.{same_whole, same_reached, follows_more, next_same}
 
@@ -55,6 +55,16 @@ stuck_here {ts = ts} kind ahead placed before goes same = inr (record {
     goes = goes;
   };
 })
+
+-- the second kind comes later than the first
+abbrev pub IsLater : Kind → Kind → Type 0
+IsLater form form = ⊥
+IsLater form number = Unit {0}
+IsLater form limit = Unit {0}
+IsLater number form = ⊥
+IsLater number number = ⊥
+IsLater number limit = Unit {0}
+IsLater limit k = ⊥
 
 -- it is read, or there is a fault of a later kind
 abbrev pub Passes : {X : Type 0} → Kind → Out X → X → List Placed → Type 0

@@ -5,11 +5,11 @@ use Rattle.sour_raw.specs.declared.kind.Kind.{Kind}
 use Rattle.sour_raw.specs.declared.kind.Kind.TheVariants.{Form as form, Number as number, Limit as limit}
 use Rattle.sour_raw.specs.Lexemes.{is}
 use Rattle.sour_raw.specs.Spelling.{Tokens, ◌·◌, one, from_line, line_of, Language}
-use Rattle.sour_raw.specs.Fault.{earlier, IsLater, Same, IsPlaced, Follows}
+use Rattle.sour_raw.specs.Fault.{earlier, Same, IsPlaced, Follows}
 use Rattle.sour_raw.specs.Combinators.{Reading, ◌>>=◌, next, this, after, ended, both, lined, at_end, complete}
 use Rattle.sour_raw.specs.Words.{Within, word, saying, said, word_at, saying_at}
 use Rattle.laws_grammar.proofs.Lexemes.{is_same, is_itself}
-use Rattle.laws_grammar.proofs.Kit.{Verdict, took, stuck_here, Passes, Exact, Any, verdict_to, exact_as, empty, exact_then, exact_image, Begins, begins_first}
+use Rattle.laws_grammar.proofs.Kit.{Verdict, took, stuck_here, IsLater, Passes, Exact, Any, verdict_to, exact_as, empty, exact_then, exact_image, Begins, begins_first}
 
 -- ---- where a token doesn't fit
 

@@ -17,7 +17,7 @@ use Rattle.sour_raw.specs.Instructions.{headed_at, content_at, line_at, begins_l
 use Rattle.laws_grammar.proofs.Kit.{Exact, Any, exact_as, image, exact_image, out, either, exact_choose, leads, exact_then, Begins, begins_first, begins_full}
 use Rattle.laws_grammar.proofs.Leaves.{exact_ended, exact_lined}
 use Rattle.laws_grammar.proofs.OneTooMany.{Starts}
-use Rattle.laws_grammar.proofs.Keys.{instr_words_found, keys_pass, begins_items}
+use Rattle.laws_grammar.proofs.Keys.{instr_words_found, keys_pass, may_begin_items}
 use Rattle.laws_grammar.proofs.Names.{names_say}
 use Rattle.laws_grammar.proofs.Instructions.{AtLineEnd, by_word, exact_by_word, by_word_begins, by_word_to, assign, exact_assign, store, exact_store, instr_back, words_no_names, exact_instr}
 use Rattle.laws_grammar.proofs.Headings.{heading, exact_heading, heading_begins}
@@ -182,5 +182,5 @@ pub lines_begin : (names : List (List ℕ)) → Starts (line names) begins_line
 lines_begin names = record {
   starts = λ k l u rest s. begins_first begins_line true (content names k (l.label, l.instr)) (one LineEnd)
       (content_begins names k (l.label, l.instr)) u rest s.0;
-  items = begins_items begins_line refl;
+  items = may_begin_items begins_line refl;
 }

@@ -5,11 +5,11 @@ use Rattle.sour_raw.specs.declared.kind.Kind.{Kind}
 use Rattle.sour_raw.specs.declared.kind.Kind.TheVariants.{Form as form, Number as number, Limit as limit}
 use Rattle.sour_raw.specs.Lexemes.{is}
 use Rattle.sour_raw.specs.Spelling.{Tokens, less, HasRoom, each, after_separator, listed, one_or_more, Language}
-use Rattle.sour_raw.specs.Fault.{earlier, IsLater, Same, separates}
+use Rattle.sour_raw.specs.Fault.{earlier, Same, separates}
 use Rattle.sour_raw.specs.Combinators.{Out, Reading, ◌>>=◌, next, leading, mapped, both, Items, by_room, many, repeated, plain, others, listed_at, one_or_more_at}
 use Rattle.laws_grammar.proofs.Same.{same_refl, same_head, same_whole, next_same}
 use Rattle.laws_grammar.proofs.Lexemes.{is_itself}
-use Rattle.laws_grammar.proofs.Kit.{Verdict, took, Passes, Looser, Exact, bind_same, verdict_to, same_out, exact_as, image, verdict_image, exact_image, out, exact_any, empty, exact_nothing, leads, verdict_after, stuck_first, passes_bind, either, exact_choose}
+use Rattle.laws_grammar.proofs.Kit.{Verdict, took, IsLater, Passes, Looser, Exact, bind_same, verdict_to, same_out, exact_as, image, verdict_image, exact_image, out, exact_any, empty, exact_nothing, leads, verdict_after, stuck_first, passes_bind, either, exact_choose}
 use Rattle.laws_grammar.proofs.Leaves.{pairs, exact_both, exact_after, headed}
 use Rattle.laws_grammar.proofs.OneTooMany.{Over, Starts, exact_over, over_plain, over_after}
 

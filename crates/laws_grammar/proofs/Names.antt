@@ -7,7 +7,7 @@ use Rattle.std.proofs.lemmas.Bool.{false_from_ne_true, or_left, or_right}
 use Rattle.std.proofs.lemmas.Slice.Eq.{bytes_eq-Decides}
 use Rattle.sour_lexer.specs.Placed.{Lexeme, Word, Digits}
 use Rattle.sour_raw.specs.declared.kind.Kind.TheVariants.{Limit as limit}
-use Rattle.sour_raw.specs.Fault.{begins_item}
+use Rattle.sour_raw.specs.Fault.{may_begin_item}
 use Rattle.sour_raw.specs.Words.{word}
 use Rattle.sour_raw.specs.Names.{is_name, is_label, is_short, is_short_if_name, word_that, name_of, label_of, part_of}
 use Rattle.sour_raw.specs.Variables.{may_mention}
@@ -70,7 +70,7 @@ label_begins p b h = begins_word label_of limit is_short_if_name p b (of_words i
 pub exact_name : Exact name Any name_at
 unfolding name_at
 exact_name = exact_word name_of limit is_short tt
-    (λ t x ts e fails. of_words is_name begins_item true (λ y is. refl) t.lexeme x e) (Word (codes "x"))
+    (λ t x ts e fails. of_words is_name may_begin_item true (λ y is. refl) t.lexeme x e) (Word (codes "x"))
     (codes "x") refl refl
 
 -- among some names there is one that is a name, or none counts as one
@@ -110,7 +110,7 @@ unfolding mention_at
 exact_mention names =
     let some = any_mention names in
     exact_word name_of limit (may_mention names) tt
-    (λ t x ts e fails. of_words is_name begins_item true (λ y is. refl) t.lexeme x e)
+    (λ t x ts e fails. of_words is_name may_begin_item true (λ y is. refl) t.lexeme x e)
     (Word some.0) some.0 (name_said some.0 some.1) some.2
 
 -- the law of a label
@@ -118,7 +118,7 @@ pub exact_label : Exact label Any label_at
 unfolding label_at
 exact_label =
     exact_word label_of limit is_short_if_name tt
-    (λ t x ts e fails. of_words is_label begins_item true (λ y is. refl) t.lexeme x e)
+    (λ t x ts e fails. of_words is_label may_begin_item true (λ y is. refl) t.lexeme x e)
     (Word (codes "x")) (codes "x") refl refl
 
 -- the law of a part of a path
@@ -128,7 +128,7 @@ exact_part =
     exact_word part_of limit is_short_if_name tt (λ t x ts e fails. part_item t.lexeme x e) (Word (codes "x"))
     (codes "x") refl refl
   where
-    part_item : (t : Lexeme) (x : List ℕ) → part_of t ≡ Some x → begins_item t ≡ true
+    part_item : (t : Lexeme) (x : List ℕ) → part_of t ≡ Some x → may_begin_item t ≡ true
     part_item (Digits bytes) x e = refl
     part_item (Word bytes) x e = refl
     part_item other x e = absurd cc

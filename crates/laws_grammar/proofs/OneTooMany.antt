@@ -5,11 +5,11 @@ use Rattle.sour_raw.specs.declared.kind.Kind.{Kind}
 use Rattle.sour_raw.specs.declared.kind.Kind.TheVariants.{Form as form, Number as number, Limit as limit}
 use Rattle.sour_raw.specs.Lexemes.{is}
 use Rattle.sour_raw.specs.Spelling.{Tokens, ◌·◌, one, Language}
-use Rattle.sour_raw.specs.Fault.{earlier, IsLater, Same, IsBetween, IsPlaced, separates, begins_item, Follows, Spot}
+use Rattle.sour_raw.specs.Fault.{earlier, Same, IsBetween, IsPlaced, separates, may_begin_item, Follows, Spot}
 use Rattle.sour_raw.specs.Combinators.{Out, Reading, next, after, refuse, too_many}
 use Rattle.laws_grammar.proofs.Same.{same_refl, same_head, same_sym}
 use Rattle.laws_grammar.proofs.Lexemes.{is_same, is_itself}
-use Rattle.laws_grammar.proofs.Kit.{err_kind, Passes, Exact, within_limit, some}
+use Rattle.laws_grammar.proofs.Kit.{err_kind, IsLater, Passes, Exact, within_limit, some}
 use Rattle.laws_grammar.proofs.Leaves.{alike, at_none, somewhere}
 
 -- it is refused, where nothing but a separator may have been read
@@ -42,19 +42,19 @@ pub record OverHere {X : Type 0} (S : Language X) (F : Tokens) (o : Reading X) :
 -- with which tokens an item begins
 pub record Starts {X : Type 0} (S : Language X) (p : Lexeme → Bool) : Type 0 where
   pub starts : (k : Kind) (x : X) (u rest : List Placed) → S k x u → next p (u ++ rest) ≡ true
-  pub items : (t : Lexeme) → p t ≡ true → begins_item t ≡ true
+  pub items : (t : Lexeme) → p t ≡ true → may_begin_item t ≡ true
 
 -- ---- its own fault, or Limit
 
 -- a separator begins no item
-pub no_item : (t : Lexeme) → separates t ≡ true → begins_item t ≡ true → ⊥
+pub no_item : (t : Lexeme) → separates t ≡ true → may_begin_item t ≡ true → ⊥
 no_item t a b = by (separates t) a refl where
   by : (c : Bool) → c ≡ true → separates t ≡ c → ⊥
-  by true c e = let f : begins_item t ≡ false = rw e refl in absurd cc
+  by true c e = let f : may_begin_item t ≡ false = rw e refl in absurd cc
   by false c e = absurd cc
 
 -- an item may stand here
-next_placed : (p : Lexeme → Bool) → ((t : Lexeme) → p t ≡ true → begins_item t ≡ true) → (ts : List Placed)
+next_placed : (p : Lexeme → Bool) → ((t : Lexeme) → p t ≡ true → may_begin_item t ≡ true) → (ts : List Placed)
     → next p ts ≡ true → IsPlaced limit zero ts
 next_placed p items [] n = absurd cc
 next_placed p items (t ∷ ts) n = items t.lexeme n

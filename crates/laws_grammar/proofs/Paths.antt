@@ -4,7 +4,7 @@ use Rattle.sour_lexer.specs.Placed.{Lexeme}
 use Rattle.sour_raw.specs.declared.kind.Kind.{Kind}
 use Rattle.sour_raw.specs.Lexemes.{slash, at_sign, is}
 use Rattle.sour_raw.specs.Spelling.{Tokens, each, after_separator, after_all, alone, Language}
-use Rattle.sour_raw.specs.Fault.{begins_item}
+use Rattle.sour_raw.specs.Fault.{may_begin_item}
 use Rattle.sour_raw.specs.Combinators.{next}
 use Rattle.sour_raw.specs.Names.{is_label}
 use Rattle.sour_raw.specs.Grammar.{no_names, label, with_part, part, path, anchor}
@@ -21,11 +21,11 @@ abbrev pub NoPart : Tokens
 NoPart ts = next (is slash) ts ≡ false
 
 -- what begins with a token that begins an item begins with that of an item
-pub starts_with : {X : Type 0} {S : Language X} (lexeme : Lexeme) → begins_item lexeme ≡ true
+pub starts_with : {X : Type 0} {S : Language X} (lexeme : Lexeme) → may_begin_item lexeme ≡ true
     → ((k : Kind) (x : X) → Begins (is lexeme) true (S k x)) → Starts S (is lexeme)
 starts_with lexeme item begins = record {
   starts = λ k x u rest s. begins k x u rest s;
-  items = λ t e. subst (λ (it : Lexeme). begins_item it ≡ true) (sym (is_same lexeme t e)) item;
+  items = λ t e. subst (λ (it : Lexeme). may_begin_item it ≡ true) (sym (is_same lexeme t e)) item;
 }
 
 -- the law of the parts of a path after its label

@@ -12,7 +12,7 @@ use Rattle.sour_raw.specs.declared.parts.PassWord.{PassWord}
 use Rattle.sour_raw.specs.declared.parts.PassWord.TheVariants as word
 use Rattle.sour_raw.specs.Lexemes.{equal_equal, slash, colon, semicolon, at_sign, is}
 use Rattle.sour_raw.specs.Spelling.{Tokens, ◌·◌, one, each, listed, alone, Language}
-use Rattle.sour_raw.specs.Fault.{begins_item}
+use Rattle.sour_raw.specs.Fault.{may_begin_item}
 use Rattle.sour_raw.specs.Combinators.{next}
 use Rattle.sour_raw.specs.Keys.{keyword, pass_token, all_pass_words, start_token, all_starts}
 use Rattle.sour_raw.specs.Names.{is_label}
@@ -153,7 +153,7 @@ starts_pass = record { starts = starts; items = items } where
       headed (pass_token m.0) begins_pass true
       (keys_pass pass_token all_pass_words pass_words_found begins_pass refl m.0) u rest m.1
 
-  items : (t : Lexeme) → begins_pass t ≡ true → begins_item t ≡ true
+  items : (t : Lexeme) → begins_pass t ≡ true → may_begin_item t ≡ true
   items (Word bytes) e = refl
   items other e = absurd cc
 

@@ -17,5 +17,5 @@ by_recursion P (x ∷ xs) all = (All-head P x xs all, by_recursion P xs (All-tai
 -- what bytes read as is written and short
 pub read_is_written : (bytes : List ℕ) (raw : RawJob) → Reads bytes raw → IsWritten raw × IsShort raw
 read_is_written bytes raw reads =
-    let kinds = (list_of_text bytes reads.tokens reads.whole).kinds in
-    job_written raw (reads.tokens, reads.spelled, by_recursion _ reads.tokens kinds)
+    let well_formed = (list_of_text bytes reads.tokens reads.whole).well_formed in
+    job_written raw (reads.tokens, reads.spelled, by_recursion _ reads.tokens well_formed)

@@ -5,9 +5,9 @@ use Rattle.sour_lexer.specs.Placed.{Lexeme, Placed, Sign, Digits}
 use Rattle.sour_raw.specs.declared.kind.Kind.{Kind}
 use Rattle.sour_raw.specs.declared.kind.Kind.TheVariants.{Form as form, Number as number, Limit as limit}
 use Rattle.sour_raw.specs.Spelling.{Language}
-use Rattle.sour_raw.specs.Fault.{earlier, IsLater, Same, IsBetween, IsPlaced, separates, decides, is_digits, begins_item, Follows, FaultAt}
+use Rattle.sour_raw.specs.Fault.{earlier, Same, IsBetween, IsPlaced, separates, decides, is_digits, may_begin_item, Follows, FaultAt}
 use Rattle.laws_grammar.proofs.Same.{same_head}
-use Rattle.laws_grammar.proofs.Kit.{Looser, within_limit, within_form}
+use Rattle.laws_grammar.proofs.Kit.{IsLater, Looser, within_limit, within_form}
 
 -- ---- what stands at a place
 
@@ -21,7 +21,7 @@ digits_part (Digits bytes) e = refl
 digits_part other e = absurd cc
 
 -- what begins an item doesn't
-item_part : (t : Lexeme) → begins_item t ≡ true → is_between t ≡ false
+item_part : (t : Lexeme) → may_begin_item t ≡ true → is_between t ≡ false
 item_part t e = by (is_between t) e where
   by : (b : Bool) → not b ≡ true → b ≡ false
   by true e = absurd cc

@@ -1,4 +1,4 @@
--- What tokens of their kind spell within the limits is written and short: expressions, exits and instructions.
+-- What well-formed tokens spell within the limits is written and short: expressions, exits and instructions.
 use Rattle.std.proofs.Common.{ℕ, pos, neg_ℤ, zero, suc, ◌≤◌, List, [], ◌∷◌, length, Some, None, sym, subst, inl, inr, arith}
 use Rattle.std.specs.Prelude.{FitsSigned}
 use Rattle.std.specs.Int.{w64}

@@ -1,4 +1,4 @@
--- What tokens of their kind spell within the limits is written and short: from lines up to the whole job.
+-- What well-formed tokens spell within the limits is written and short: from lines up to the whole job.
 use Rattle.std.proofs.Common.{◌≡◌, ℕ, suc, ◌≤◌, ◌+◌, inl, inr, List, [], ◌∷◌, length, length-append, Option, Some, None, subst, true, false, Bool, refl, arith}
 use Rattle.std.specs.Prelude.{⊤}
 use Rattle.std.specs.List.{AllByRecursion, list_any}

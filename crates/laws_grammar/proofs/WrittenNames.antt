@@ -1,4 +1,4 @@
--- What tokens of their kind say within the limits: names, labels, paths, and at most 1024 variables.
+-- What well-formed tokens say within the limits: names, labels, paths, and at most 1024 variables.
 use Rattle.std.proofs.Common.{◌≡◌, ℕ, ◌≤◌, ◌<◌, Bool, true, false, not, ◌⊎◌, inl, inr, List, [], ◌∷◌, length, length-append, eq-eqb, eqb-true, true≢false, Some, None, refl, sym, ap, subst, ◌∙◌, arith}
 use Rattle.std.specs.Prelude.{filter, nat_lt, ⊤}
 use Rattle.std.specs.Char.{is_ascii_digit}
@@ -11,7 +11,7 @@ use Rattle.sour_tokens.specs.Token.{IsWord, IsDigits}
 use Rattle.sour_syntax.specs.Name.{is_reserved, IsName}
 use Rattle.sour_syntax.proofs.Everywhere.{AllByRecursion-append}
 use Rattle.sour_lexer.specs.Placed.{Lexeme, Word, Digits}
-use Rattle.sour_lexer.specs.TokenList.{IsOfItsKind}
+use Rattle.sour_lexer.specs.TokenList.{IsWellFormed}
 use Rattle.sour_raw.specs.declared.kind.Kind.TheVariants.{Limit as limit}
 use Rattle.sour_raw.specs.Spelling.{each, after_separator, alone}
 use Rattle.sour_raw.specs.Words.{word}
@@ -22,13 +22,13 @@ use Rattle.sour_raw.specs.Variables.{is_known, has_room, fits, may_mention}
 use Rattle.sour_raw.specs.Grammar.{no_names, name, mention, label, part, path}
 use Rattle.sour_raw.specs.Written.{IsDecimal, IsLabel, IsPath}
 use Rattle.laws_grammar.proofs.Names.{word_is}
-use Rattle.laws_grammar.proofs.Held.{AreOfKind, Held, cut, Keeps, each_kept, separated}
+use Rattle.laws_grammar.proofs.Held.{EachIsWellFormed, Held, cut, Keeps, each_kept, separated}
 
 -- what is known of a word that a token says
 said_word : (test allowed : List ℕ → Bool) (x : List ℕ) → Held (word (word_that test) limit allowed limit x)
     → IsWord x × (test x ≡ true) × (allowed x ≡ true)
 said_word test allowed x (u, s, known) =
-    let t = word_is test s.0.lexeme x s.1 in (subst IsOfItsKind t.0 (subst AreOfKind s.2 known).0, t.1, s.3)
+    let t = word_is test s.0.lexeme x s.1 in (subst IsWellFormed t.0 (subst EachIsWellFormed s.2 known).0, t.1, s.3)
 
 -- ---- names
 
@@ -91,11 +91,11 @@ label_written x h = let t = said_word is_label is_short_if_name x h in is_label_
 
 -- a part of a path is a label or digits
 part_written : (x : List ℕ) → Held (part limit x) → IsLabel x ⊎ IsDigits x
-part_written x (u, (t, says, whole, short), known) = by t.lexeme says (subst AreOfKind whole known).0 where
-  by : (lexeme : Lexeme) → part_of lexeme ≡ Some x → IsOfItsKind lexeme → IsLabel x ⊎ IsDigits x
+part_written x (u, (t, says, whole, short), known) = by t.lexeme says (subst EachIsWellFormed whole known).0 where
+  by : (lexeme : Lexeme) → part_of lexeme ≡ Some x → IsWellFormed lexeme → IsLabel x ⊎ IsDigits x
   by (Digits bytes) e is = let same : bytes ≡ x = cc in inr (subst IsDigits same is)
   by (Word bytes) e is =
-      let t = word_is is_label (Word bytes) x e in inl (is_label_of x (subst IsOfItsKind t.0 is) t.1 short)
+      let t = word_is is_label (Word bytes) x e in inl (is_label_of x (subst IsWellFormed t.0 is) t.1 short)
   by other e is = absurd cc
 
 -- and so are its parts

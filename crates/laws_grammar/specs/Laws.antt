@@ -15,20 +15,20 @@ ReadsOnce = (bytes : List ℕ) (raw other : RawJob) → Reads bytes raw → Read
 
 -- a text has one first fault at most: one number, line and column
 abbrev pub FaultsOnce : Type 0
-FaultsOnce = (bytes : List ℕ) (kind line column kind' line' column' : ℕ) → IsFirstFault bytes kind line column
-    → IsFirstFault bytes kind' line' column'
-    → (kind ≡ kind') × (line ≡ line') × (column ≡ column')
+FaultsOnce = (bytes : List ℕ) (number line column number' line' column' : ℕ) → IsFirstFault bytes number line column
+    → IsFirstFault bytes number' line' column'
+    → (number ≡ number') × (line ≡ line') × (column ≡ column')
 
 -- a text that reads as a raw job has no fault
 abbrev pub NeverBoth : Type 0
-NeverBoth = (bytes : List ℕ) (raw : RawJob) (kind line column : ℕ) → Reads bytes raw
-    → IsFirstFault bytes kind line column → ⊥
+NeverBoth = (bytes : List ℕ) (raw : RawJob) (number line column : ℕ) → Reads bytes raw
+    → IsFirstFault bytes number line column → ⊥
 
 -- each text reads as a raw job or has a first fault
 abbrev pub ReadsOrFaults : Type 0
 ReadsOrFaults = (bytes : List ℕ)
     → ((raw : RawJob) × Reads bytes raw)
-    ⊎ ((kind : ℕ) × (line : ℕ) × (column : ℕ) × IsFirstFault bytes kind line column)
+    ⊎ ((number : ℕ) × (line : ℕ) × (column : ℕ) × IsFirstFault bytes number line column)
 
 -- the reading of a job gives exactly the raw job that the tokens spell, or else their fault, where it stands
 abbrev pub ReadsExactly : Type 0

@@ -5,7 +5,7 @@ use Rattle.std.proofs.lemmas.List.Elements.{All-nil, All-cons, All-head, All-tai
 use Rattle.sour_lexer.specs.Placed.{Lexeme, Word, Digits, Sign, LineEnd, Bad, Placed}
 use Rattle.sour_lexer.specs.Front.{spelling, IsSpelled, blanks}
 use Rattle.sour_lexer.specs.TokensOf.{Has, with_line_end, LinesHave, HasTokens, text_lines}
-use Rattle.sour_lexer.specs.TokenList.{IsOfItsKind, AreOfTheirKinds, IsNotBad, AreEnded}
+use Rattle.sour_lexer.specs.TokenList.{IsWellFormed, AreWellFormed, IsNotBad, AreEnded}
 
 -- each is spelled so
 abbrev AreSpelled : List Placed → Type 0
@@ -15,13 +15,13 @@ AreSpelled tokens = All (λ token. IsSpelled token.lexeme) tokens
 abbrev AreNotBad : List Placed → Type 0
 AreNotBad tokens = All (λ token. IsNotBad token.lexeme) tokens
 
--- what is spelled so is of its kind
-kind_spelled : (lexeme : Lexeme) → IsSpelled lexeme → IsOfItsKind lexeme
-kind_spelled (Word bytes) is = is
-kind_spelled (Digits bytes) is = is
-kind_spelled (Sign symbol) is = tt
-kind_spelled LineEnd is = tt
-kind_spelled (Bad why) is = tt
+-- what is spelled so is well formed
+well_formed_spelled : (lexeme : Lexeme) → IsSpelled lexeme → IsWellFormed lexeme
+well_formed_spelled (Word bytes) is = is
+well_formed_spelled (Digits bytes) is = is
+well_formed_spelled (Sign symbol) is = tt
+well_formed_spelled LineEnd is = tt
+well_formed_spelled (Bad why) is = tt
 
 -- and is in a token
 not_bad_spelled : (lexeme : Lexeme) → IsSpelled lexeme → IsNotBad lexeme
@@ -51,9 +51,9 @@ ended_after (token ∷ next ∷ front) rest front_is some rest_is = (
   ended_after (next ∷ front) rest (All-tail (λ t. IsNotBad t.lexeme) token (next ∷ front) front_is) some rest_is,
 )
 
--- of their kinds, and ended
+-- each is well formed, and they are ended
 pub record IsTokenList (tokens : List Placed) : Type 0 where
-  pub kinds : AreOfTheirKinds tokens
+  pub well_formed : AreWellFormed tokens
   pub ended : AreEnded tokens
 
 -- the tokens that stand in a line are no such bytes
@@ -62,13 +62,13 @@ not_bad_own own own_is =
     All-weaker (λ t. IsSpelled t.lexeme) (λ t. IsNotBad t.lexeme) (λ t. not_bad_spelled t.lexeme) own own_is
 
 -- tokens that stand in a line, and one more that ends them
-list_with : (own : List Placed) (last : Placed) → AreSpelled own → IsOfItsKind last.lexeme → AreEnded (last ∷ [])
+list_with : (own : List Placed) (last : Placed) → AreSpelled own → IsWellFormed last.lexeme → AreEnded (last ∷ [])
     → IsTokenList (own ++ last ∷ [])
-list_with own last own_is kind ends = record {
-  kinds =
-      All-append (λ t. IsOfItsKind t.lexeme) own (last ∷ [])
-      (All-weaker (λ t. IsSpelled t.lexeme) (λ t. IsOfItsKind t.lexeme) (λ t. kind_spelled t.lexeme) own own_is)
-      (All-cons (λ t. IsOfItsKind t.lexeme) last [] kind (All-nil (λ t. IsOfItsKind t.lexeme)));
+list_with own last own_is well_formed ends = record {
+  well_formed =
+      All-append (λ t. IsWellFormed t.lexeme) own (last ∷ [])
+      (All-weaker (λ t. IsSpelled t.lexeme) (λ t. IsWellFormed t.lexeme) (λ t. well_formed_spelled t.lexeme) own own_is)
+      (All-cons (λ t. IsWellFormed t.lexeme) last [] well_formed (All-nil (λ t. IsWellFormed t.lexeme)));
   ended =
       ended_after own (last ∷ [])
       (not_bad_own own own_is) (omega arith) ends;
@@ -82,7 +82,7 @@ record IsWholeList (tokens : List Placed) : Type 0 where
 -- those that stand in it, and its end
 with_end : (line column : ℕ) (own : List Placed) → AreSpelled own → IsWholeList (with_line_end line column own)
 with_end line column [] own_is = record {
-  list = record { kinds = All-nil (λ t. IsOfItsKind t.lexeme); ended = tt };
+  list = record { well_formed = All-nil (λ t. IsWellFormed t.lexeme); ended = tt };
   not_bad = All-nil (λ t. IsNotBad t.lexeme);
 }
 with_end line column (token ∷ own) own_is =
@@ -98,7 +98,7 @@ with_end line column (token ∷ own) own_is =
 list_after : (first others : List Placed) → IsWholeList first → IsTokenList others → IsTokenList (first ++ others)
 list_after first [] first_is others_is = subst IsTokenList (sym (append-nil first)) first_is.list
 list_after first (token ∷ others) first_is others_is = record {
-  kinds = All-append (λ t. IsOfItsKind t.lexeme) first (token ∷ others) first_is.list.kinds others_is.kinds;
+  well_formed = All-append (λ t. IsWellFormed t.lexeme) first (token ∷ others) first_is.list.well_formed others_is.well_formed;
   ended = ended_after first (token ∷ others) first_is.not_bad (omega arith) others_is.ended;
 }
 
@@ -106,7 +106,7 @@ list_after first (token ∷ others) first_is others_is = record {
 list_of_lines : (line : ℕ) (lines : List (List ℕ)) (tokens : List Placed) → LinesHave line lines tokens
     → IsTokenList tokens
 list_of_lines line [] tokens is =
-    subst IsTokenList (sym is) (record { kinds = All-nil (λ t. IsOfItsKind t.lexeme); ended = tt })
+    subst IsTokenList (sym is) (record { well_formed = All-nil (λ t. IsWellFormed t.lexeme); ended = tt })
 list_of_lines line (bytes ∷ lines) tokens (inl cut) =
     let bad : Placed = record { lexeme = Bad cut.why; line = line; column = cut.stop + blanks cut.left } in
     subst IsTokenList (sym cut.all)

@@ -5,16 +5,16 @@ use Rattle.sour_tokens.specs.Token.{IsWord, IsDigits}
 use Rattle.sour_lexer.specs.Placed.{Lexeme, Word, Digits, Sign, LineEnd, Bad, Placed}
 
 -- the bytes of a word are a word's, and those of digits are digits
-abbrev pub IsOfItsKind : Lexeme → Type 0
-IsOfItsKind (Word bytes) = IsWord bytes
-IsOfItsKind (Digits bytes) = IsDigits bytes
-IsOfItsKind (Sign symbol) = ⊤
-IsOfItsKind LineEnd = ⊤
-IsOfItsKind (Bad why) = ⊤
+abbrev pub IsWellFormed : Lexeme → Type 0
+IsWellFormed (Word bytes) = IsWord bytes
+IsWellFormed (Digits bytes) = IsDigits bytes
+IsWellFormed (Sign symbol) = ⊤
+IsWellFormed LineEnd = ⊤
+IsWellFormed (Bad why) = ⊤
 
--- so are those of each token
-abbrev pub AreOfTheirKinds : List Placed → Type 0
-AreOfTheirKinds tokens = All (λ token. IsOfItsKind token.lexeme) tokens
+-- so is each token
+abbrev pub AreWellFormed : List Placed → Type 0
+AreWellFormed tokens = All (λ token. IsWellFormed token.lexeme) tokens
 
 -- it isn't a byte that is in no token
 abbrev pub IsNotBad : Lexeme → Type 0

@@ -2,7 +2,7 @@
 
 ghost use Rattle.std.specs.Prelude.{◌≡◌, ◌↔◌, ◌+◌, ◌^◌, ◌≤◌, List, IfOk, drop, length};
 ghost use Rattle.sour_lexer.specs.Placed.{Placed, all_placed};
-ghost use Rattle.sour_lexer.specs.TokenList.{AreOfTheirKinds, AreEnded};
+ghost use Rattle.sour_lexer.specs.TokenList.{AreWellFormed, AreEnded};
 ghost use Rattle.sour_lexer.specs.TokensOf.{HasTokens, text_lines, lines_end, text_end};
 
 use crate::bytes::line_len;
@@ -26,7 +26,7 @@ pub struct Tokens<'a> {
 pub fn tokens_of<'a>(alloc: Global, text: &'a [u8]) -> Result<Tokens<'a>, AllocError>
     ensures tokens { IfOk result (λ found. (tokens : List Placed) →
         HasTokens text.now tokens ↔ (tokens ≡ all_placed found.tokens.items)) }
-    ensures kinds { IfOk result (λ found. AreOfTheirKinds (all_placed found.tokens.items)) }
+    ensures well_formed { IfOk result (λ found. AreWellFormed (all_placed found.tokens.items)) }
     ensures ended { IfOk result (λ found. AreEnded (all_placed found.tokens.items)) }
     ensures end_line { IfOk result (λ found. found.end_line ≡ (text_end text.now).line) }
     ensures end_column { IfOk result (λ found. found.end_column ≡ (text_end text.now).column) }

@@ -4,21 +4,11 @@ use Rattle.sour_tokens.specs.declared.symbols.Symbol.TheVariants.{Arrow, OpenBra
 use Rattle.sour_lexer.specs.Placed.{Lexeme, Placed, Sign, Digits}
 use Rattle.sour_raw.specs.Spelling.{Kind, form, number, limit, Language}
 
--- the kind before this one
+-- the kind that comes before this one; none comes before Form, which stands for itself there
 abbrev pub earlier : Kind → Kind
 earlier form = form
 earlier number = form
 earlier limit = number
-
--- the second kind comes later than the first
-abbrev pub IsLater : Kind → Kind → Type 0
-IsLater form form = ⊥
-IsLater form number = Unit {0}
-IsLater form limit = Unit {0}
-IsLater number form = ⊥
-IsLater number number = ⊥
-IsLater number limit = Unit {0}
-IsLater limit k = ⊥
 
 -- whether the token stands between the items of a list
 abbrev pub separates : Lexeme → Bool
@@ -32,16 +22,16 @@ decides (Sign Arrow) = true
 decides (Sign OpenBracket) = true
 decides other = false
 
--- whether the token may begin an item of which there may be one too many
-abbrev pub begins_item : Lexeme → Bool
-begins_item lexeme = not (separates lexeme || decides lexeme)
+-- whether an item may begin with the token: it neither separates items nor makes the word before it a variable
+abbrev pub may_begin_item : Lexeme → Bool
+may_begin_item lexeme = not (separates lexeme || decides lexeme)
 
 -- whether the token is digits
 abbrev pub is_digits : Lexeme → Bool
 is_digits (Digits bytes) = true
 is_digits other = false
 
--- the first n + 1 tokens are the same, or both lists end before
+-- the first token is the same in both lists, and so are the n tokens after it; where one list ends, the other does too
 abbrev pub Same : ℕ → List Placed → List Placed → Type 0
 Same n [] [] = Unit {0}
 Same n [] (u ∷ us) = ⊥
@@ -55,8 +45,11 @@ IsBetween [] = Unit {0}
 IsBetween (t ∷ []) = separates t.lexeme ≡ true
 IsBetween (t ∷ u ∷ ts) = ⊥
 
--- what stands at a fault that takes so many tokens after its first one to be known: Form may stand anywhere, Number at
--- digits, Limit at the first token of an item, or at a variable that is known by the token after it
+-- What stands at a fault that takes so many tokens after its first one to be known. Form may stand anywhere, Number at
+-- digits. Limit stands at the first token of the item that is one too many, or of the name that is too long: not at the
+-- separator before the item, though nothing within the limits goes on with that one either; and not at the `<-` or `[`
+-- that makes a name at the head of a line one variable too many, where a label may still be, but at the name, which
+-- then takes one more token to be known.
 abbrev pub IsPlaced : Kind → ℕ → List Placed → Type 0
 IsPlaced form zero ts = Unit {0}
 IsPlaced form (suc n) ts = ⊥
@@ -64,10 +57,10 @@ IsPlaced number zero [] = ⊥
 IsPlaced number zero (t ∷ ts) = is_digits t.lexeme ≡ true
 IsPlaced number (suc n) ts = ⊥
 IsPlaced limit zero [] = ⊥
-IsPlaced limit zero (t ∷ ts) = begins_item t.lexeme ≡ true
+IsPlaced limit zero (t ∷ ts) = may_begin_item t.lexeme ≡ true
 IsPlaced limit (suc zero) [] = ⊥
 IsPlaced limit (suc zero) (t ∷ []) = ⊥
-IsPlaced limit (suc zero) (t ∷ u ∷ ts) = (begins_item t.lexeme ≡ true) × (decides u.lexeme ≡ true)
+IsPlaced limit (suc zero) (t ∷ u ∷ ts) = (may_begin_item t.lexeme ≡ true) × (decides u.lexeme ≡ true)
 IsPlaced limit (suc (suc n)) ts = ⊥
 
 -- the second goes on with the tokens of the first that make a fault of this kind known; a fault of Form asks for none

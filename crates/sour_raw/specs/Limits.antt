@@ -1,4 +1,4 @@
--- How much a text may hold.
+-- What follows for a raw job that some text reads as: how many parts it has at most.
 use Rattle.std.specs.Prelude.{◌≤◌, ℕ, List, length, ⊤}
 use Rattle.std.specs.List.{AllByRecursion}
 use Rattle.sour_raw.specs.declared.raw.RawInstr.{RawInstr}

@@ -1,4 +1,5 @@
--- The order of the items of a raw job: functions, in each its versions, in each its lines; then jobs; then inputs.
+-- What follows for a raw job that some text reads as: its functions, in each its versions, in each their lines, then its
+-- jobs and then its inputs stand on lines that ascend.
 use Rattle.std.specs.Prelude.{ℕ, ◌<◌, ◌≤◌, List, [], ◌∷◌, ◌++◌, map, flat_map, ⊤}
 use Rattle.std.specs.List.{AllByRecursion}
 use Rattle.sour_raw.specs.declared.raw.RawLine.{RawLine}

@@ -4,7 +4,7 @@ use Rattle.sour_lexer.specs.declared.tokens.BadByte.TheVariants.{NotAscii, NoTok
 use Rattle.sour_lexer.specs.Placed.{Lexeme, Placed, Bad}
 use Rattle.sour_lexer.specs.TokensOf.{HasTokens, Position, text_end}
 use Rattle.sour_raw.specs.declared.raw.RawJob.{RawJob}
-use Rattle.sour_raw.specs.Spelling.{Kind, form, number, limit}
+use Rattle.sour_raw.specs.Spelling.{Kind, form, number as in_range, limit}
 use Rattle.sour_raw.specs.Fault.{FaultAt}
 use Rattle.sour_raw.specs.Grammar.{job}
 
@@ -32,7 +32,7 @@ form_number other = 3
 abbrev pub fault_number : Kind → List Placed → ℕ
 fault_number form [] = 3
 fault_number form (token ∷ tokens) = form_number token.lexeme
-fault_number number tokens = 4
+fault_number in_range tokens = 4
 fault_number limit tokens = 5
 
 -- where the first of these tokens stands, or else the end
@@ -41,11 +41,11 @@ place_of end [] = end
 place_of end (token ∷ tokens) = record { line = token.line; column = token.column }
 
 -- the bytes don't read: this is the number of their first fault, and it stands at this line and this column
-pub record IsFirstFault (bytes : List ℕ) (kind line column : ℕ) : Type 0 where
+pub record IsFirstFault (bytes : List ℕ) (number line column : ℕ) : Type 0 where
   pub tokens : List Placed
   pub whole : HasTokens bytes tokens
-  pub of : Kind
+  pub kind : Kind
   pub rest : List Placed
-  pub fault : HasFault tokens of rest
-  pub number : kind ≡ fault_number of rest
+  pub fault : HasFault tokens kind rest
+  pub told : number ≡ fault_number kind rest
   pub place : record { line = line; column = column } ≡ place_of (text_end bytes) rest

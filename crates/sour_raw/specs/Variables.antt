@@ -70,15 +70,19 @@ with_instr names (Assume predicates exit) = with_exit (with_exprs names predicat
 abbrev pub with_line : List (List ℕ) → RawLine → List (List ℕ)
 with_line names line = with_instr names line.instr
 
+-- Within the limits some variable may be mentioned whatever the names so far are, even where no text gives them. So one
+-- that is known fits, however long it is, and what isn't a name takes no room. That changes nothing for names that grew
+-- while a text was read: each of those is a name, and short.
+
 -- whether it is one of the names so far
 abbrev pub is_known : List (List ℕ) → List ℕ → Bool
 is_known names x = list_any (bytes_eq x) names
 
--- whether it is short; one that is known was
+-- whether it is short, or is known
 abbrev pub fits : List (List ℕ) → List ℕ → Bool
 fits names x = is_short x || is_known names x
 
--- whether it is known, or there is room for one more variable; a list that grew while reading holds names alone
+-- whether it is known, or there is room for one more variable
 abbrev pub has_room : List (List ℕ) → List ℕ → Bool
 has_room names x = is_known names x || nat_lt (length (filter is_name names)) 1024
 

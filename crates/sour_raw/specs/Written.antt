@@ -1,4 +1,4 @@
--- What a raw job that a text says is made of: names, labels, paths, and numbers of 64 bits.
+-- What follows for a raw job that some text reads as: it is made of names, labels, paths, and numbers of 64 bits.
 use Rattle.std.specs.Prelude.{◌≡◌, ◌⊎◌, ℕ, List, [], ◌∷◌, Option, None, Some, FitsSigned, ⊤}
 use Rattle.std.specs.List.{AllByRecursion}
 use Rattle.std.specs.Int.{w64}

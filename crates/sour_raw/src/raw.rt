@@ -163,7 +163,7 @@ pub struct RawInput {
 pub enum RawPlanSimple {
     /// A literal.
     Lit(RawLiteral),
-    /// A variable by its name, which a pass may have made.
+    /// A variable by its path: its name in the text, or one that passes made, with `/` between the parts.
     Name(Label),
 }
 

@@ -42,9 +42,9 @@ module _ (bytes : List ℕ) (tokens : List Placed) (exact : (other : List Placed
   is_fault kind rest read number line column n p = record {
     tokens = tokens;
     whole = has;
-    of = kind;
+    kind = kind;
     rest = rest;
     fault = (faults_exactly tokens kind rest).1 read;
-    number = n;
+    told = n;
     place = p;
   }

@@ -38,20 +38,20 @@ returns-clause-tokens c =
     let none : length c.loop-rest.rest.now ≤ 0 = grind (arith, nat_tests) in
     only_list c.args.text.now (all_placed c.loop-rest.tokens.items) (text_read c.loop-rest.invariant none).0
 
-pub returns-in-Cut-clause-kinds : goal.returns-in-Cut-clause-kinds
-returns-in-Cut-clause-kinds c =
+pub returns-in-Cut-clause-well_formed : goal.returns-in-Cut-clause-well_formed
+returns-in-Cut-clause-well_formed c =
     let tokens = all_placed c.line_tokens.new.tokens.items in
-    (list_of_text c.args.text.now tokens ((returns-in-Cut-clause-tokens c tokens).1 refl)).kinds
+    (list_of_text c.args.text.now tokens ((returns-in-Cut-clause-tokens c tokens).1 refl)).well_formed
 
 pub returns-in-Cut-clause-ended : goal.returns-in-Cut-clause-ended
 returns-in-Cut-clause-ended c =
     let tokens = all_placed c.line_tokens.new.tokens.items in
     (list_of_text c.args.text.now tokens ((returns-in-Cut-clause-tokens c tokens).1 refl)).ended
 
-pub returns-clause-kinds : goal.returns-clause-kinds
-returns-clause-kinds c =
+pub returns-clause-well_formed : goal.returns-clause-well_formed
+returns-clause-well_formed c =
     let tokens = all_placed c.loop-rest.tokens.items in
-    (list_of_text c.args.text.now tokens ((returns-clause-tokens c tokens).1 refl)).kinds
+    (list_of_text c.args.text.now tokens ((returns-clause-tokens c tokens).1 refl)).well_formed
 
 pub returns-clause-ended : goal.returns-clause-ended
 returns-clause-ended c =
