@@ -2,5 +2,4 @@ pub mod Ports
 pub mod Status
 pub mod Answer
 pub mod Fault
-pub mod Report
 pub mod Tally

@@ -2,9 +2,9 @@ ghost use Rattle.std.specs.Prelude.{◌≡◌};
 ghost use Rattle.sour_commands.specs.Answer.{text_fault, text_of, status_of, IsGiven};
 ghost use Rattle.sour_commands.specs.Fault.{answer_of};
 
-use crate::line::{ShortLine, put};
 use itoa::Buffer;
 use sour_ports::{Sink, write_all};
+use sour_report::{ShortLine, put};
 
 /// The status where the sink failed.
 pub const SINK_FAILED: u8 = 5;

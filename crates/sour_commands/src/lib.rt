@@ -3,16 +3,13 @@
 //! [`sourir`] says what each answer means, and when it comes.
 #![tactic(auto)]
 
-mod blocks;
 mod budget;
 mod fault;
-mod line;
 mod program;
 mod run;
 mod serving;
 mod tally;
 
-pub use blocks::write_block;
 pub use fault::{Fault, write_fault};
 pub use program::sourir;
 pub use run::command_run;

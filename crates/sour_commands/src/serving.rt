@@ -1,13 +1,13 @@
 ghost use Rattle.std.specs.Prelude.{◌≡◌, ◌≤◌, ℕ, List, length};
 ghost use Rattle.sour_semantics.specs.Block.{BlockEnd, RunShows, RunShowsAll};
+ghost use Rattle.sour_report.specs.Report.{end_kind, report_block};
 ghost use Rattle.sour_commands.specs.Answer.{blocks as block_answer, IsGiven};
-ghost use Rattle.sour_commands.specs.Report.{end_kind, report_block};
 
-use crate::blocks::write_block;
 use crate::fault::SINK_FAILED;
 use crate::tally::Tally;
 use sour_machine::{Report, Run};
 use sour_ports::Sink;
+use sour_report::write_block;
 use sour_syntax::{Job, Literal, Program};
 use std::alloc::Global;
 use std::sync::Arc;

@@ -1,7 +1,7 @@
 ghost use Rattle.std.specs.Prelude.{◌≡◌, List, [], ◌∷◌, ◌++◌};
 ghost use Rattle.sour_semantics.specs.Block.{BlockEnd};
+ghost use Rattle.sour_report.specs.Report.{end_kind};
 ghost use Rattle.sour_commands.specs.Status.{status_of_blocks};
-ghost use Rattle.sour_commands.specs.Report.{end_kind};
 ghost use Rattle.sour_commands.specs.Tally.{Counts};
 
 use sour_machine::End;

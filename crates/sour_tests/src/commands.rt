@@ -1,9 +1,10 @@
 //! The commands, and what they write.
 
 use crate::jobs::seen;
-use sour_commands::{Fault, command_run, sourir, write_block, write_fault};
+use sour_commands::{Fault, command_run, sourir, write_fault};
 use sour_machine::{End, Report};
 use sour_ports::{Failed, MemorySink, MemorySource};
+use sour_report::write_block;
 use sour_syntax::{ArrayId, FunId, List, Literal, Program, Trap, Value};
 use std::alloc::{AllocError, Global};
 use std::test::Fail;

@@ -2,7 +2,7 @@ use Rattle.std.proofs.Common.{◌≡◌, ◌+◌, ◌<◌, List, get_or, length,
 use Rattle.std.proofs.lemmas.List.{take_all}
 use Rattle.sour_ports.proofs.Causes.{HasCause-earlier}
 use Rattle.sour_syntax.specs.declared.literal.Literal.{Literal}
-use Rattle.sour_commands.specs.Report.{end_kind, report_block}
+use Rattle.sour_report.specs.Report.{end_kind, report_block}
 use Rattle.sour_commands.proofs.ShowLemmas.{Wrote, Wrote-more, Wrote-failed}
 use Rattle.sour_commands.proofs.serving.write_blocks.Goals as goal
 

@@ -3,7 +3,7 @@ ghost use Rattle.std.specs.Io.KnownBytes.{Appends};
 ghost use Rattle.sour_ports.specs.Cause.{HasCause};
 ghost use Rattle.sour_ports.specs.Told.{AppendsFront};
 ghost use Rattle.sour_syntax.specs.Trap.{trap_number};
-ghost use Rattle.sour_commands.specs.Report.{end_line, report_block};
+ghost use Rattle.sour_report.specs.Report.{end_line, report_block};
 
 use crate::line::{ShortLine, put};
 use itoa::Buffer;

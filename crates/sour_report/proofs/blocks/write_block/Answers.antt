@@ -1,7 +1,7 @@
 use Rattle.std.proofs.lemmas.Result.{on_err_weaker}
-use Rattle.sour_commands.specs.Report.{end_line}
-use Rattle.sour_commands.proofs.BlockLemmas.{OnErr-from, front-head, front-output, front-end}
-use Rattle.sour_commands.proofs.blocks.write_block.Goals as goal
+use Rattle.sour_report.specs.Report.{end_line}
+use Rattle.sour_report.proofs.BlockLemmas.{OnErr-from, front-head, front-output, front-end}
+use Rattle.sour_report.proofs.blocks.write_block.Goals as goal
 
 pub returns-in_err-write_head-clause-front : goal.returns-in_err-write_head-clause-front
 returns-in_err-write_head-clause-front g c =

@@ -1,6 +1,6 @@
 use Rattle.std.proofs.lemmas.Result.{on_err_weaker}
-use Rattle.sour_commands.proofs.BlockLemmas.{OnErr-from, front-second, front-third}
-use Rattle.sour_commands.proofs.blocks.write_three.Goals as goal
+use Rattle.sour_report.proofs.BlockLemmas.{OnErr-from, front-second, front-third}
+use Rattle.sour_report.proofs.blocks.write_three.Goals as goal
 
 pub returns-in_err-write_all-2-clause-front : goal.returns-in_err-write_all-2-clause-front
 returns-in_err-write_all-2-clause-front g c =
