@@ -14,9 +14,9 @@ use Rattle.sour_syntax.specs.BodyView.{BodyView}
 use Rattle.sour_syntax.specs.Labels.{from_label, first_label}
 use Rattle.sour_syntax.specs.Program.{ProgramView, IsProgram}
 use Rattle.sour_syntax.specs.Targets.{made_body}
-use Rattle.sour_semantics.specs.State.{Frame, FrameCode, text, made, State, Ending}
+use Rattle.sour_semantics.specs.State.{Frame, FrameCode, text, made, State, Ending, BundleView}
 use Rattle.sour_semantics.specs.Evaluation.{function_in, operand, eval_each}
-use Rattle.sour_semantics.specs.Step.{Choice, Entry, text_version, bundle, BundleView, step, given, takes_turn, entered_frame, enters, calls, body_at, body_or_empty, body_of, act, act_first, lines_of}
+use Rattle.sour_semantics.specs.Step.{Choice, Entry, text_version, bundle, step, given, takes_turn, entered_frame, enters, calls, body_at, body_or_empty, body_of, act, act_first, lines_of}
 use Rattle.sour_semantics.specs.Run.{start_of}
 use Rattle.sour_semantics.specs.Shape.{TakesParameters, AreMadeBodies, HasShape}
 use Rattle.sour_semantics.specs.Validity.{IsValue, IsKept, MayStart, IsValid}

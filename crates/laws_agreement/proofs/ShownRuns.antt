@@ -8,8 +8,8 @@ use Rattle.sour_syntax.specs.declared.literal.Literal.{Literal}
 use Rattle.sour_syntax.specs.BodyView.{BodyView}
 use Rattle.sour_syntax.specs.Literals.{IsLiteral}
 use Rattle.sour_syntax.specs.Program.{ProgramView, IsProgram}
-use Rattle.sour_semantics.specs.State.{FrameCode, text, made, State}
-use Rattle.sour_semantics.specs.Step.{Entry, text_version, bundle, BundleView, entered_code, body_at, body_or_empty}
+use Rattle.sour_semantics.specs.State.{FrameCode, text, made, State, BundleView}
+use Rattle.sour_semantics.specs.Step.{Entry, text_version, bundle, entered_code, body_at, body_or_empty}
 use Rattle.sour_semantics.specs.Run.{start_of, start}
 use Rattle.sour_semantics.specs.Shape.{TakesParameters}
 use Rattle.sour_semantics.specs.Validity.{IsValid}

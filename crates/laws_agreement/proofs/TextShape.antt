@@ -9,7 +9,7 @@ use Rattle.sour_syntax.specs.Program.{ProgramView, BeginsPlain, IsPlainName, IsV
 use Rattle.sour_syntax.specs.Targets.{text_body}
 use Rattle.sour_syntax.proofs.PlainNames.{plain_labels, plain_variables}
 use Rattle.sour_semantics.specs.Step.{is_anchor}
-use Rattle.sour_semantics.specs.Shape.{without_at, BeginsWith, IsAnchorInstr, IsInlined, HasMadeLabel, IsFreeFor, IsReached, HasShape}
+use Rattle.sour_semantics.specs.Shape.{without_at, BeginsWith, IsAnchorInstr, IsCallOrReturn, HasMadeLabel, IsFreeFor, HasSomeScope, HasShape}
 use Rattle.laws_agreement.specs.Laws.{TextAloneIsLawful}
 use Rattle.sour_semantics.proofs.Anchors.{plain-no_anchor}
 use Rattle.laws_agreement.proofs.TextBodies.{IsVersionBody, IsVersionBody-program, plain-without_at, whole-no_front}
@@ -21,7 +21,7 @@ are-made_labels [] plain = tt
 are-made_labels (line ∷ lines) plain =
     let none : is_anchor line.label ≡ false = plain-no_anchor line.label plain.0.begins in
     let no_anchor : IsTrue (is_anchor line.label) → IsAnchorInstr line.instr = λ anchor. absurd (cc) in (
-      record { plain = subst BeginsPlain (sym (plain-without_at line.label plain.0.begins)) plain.0.begins; anchor = no_anchor },
+      record { begins = subst BeginsPlain (sym (plain-without_at line.label plain.0.begins)) plain.0.begins; anchor = no_anchor },
       are-made_labels lines plain.1,
     )
 
@@ -40,19 +40,19 @@ names-free label (name ∷ names) plain = (whole-no_front name label plain.0.who
 
 -- so the body is free for each of its lines
 each-free : (body : BodyView) (lines : List Line) → AllByRecursion (λ line. IsPlainName line.label) body.lines → AllByRecursion IsPlainName body.variables
-    → AllByRecursion (λ line. IsInlined line.instr → IsFreeFor body line.label) lines
+    → AllByRecursion (λ line. IsCallOrReturn line.instr → IsFreeFor body line.label) lines
 each-free body [] labels names = tt
 each-free body (line ∷ lines) labels names = (
-  (λ inlined. record { labels = labels-free line.label body.lines labels; variables = names-free line.label body.variables names }),
+  (λ crosses. record { labels = labels-free line.label body.lines labels; variables = names-free line.label body.variables names }),
   each-free body lines labels names,
 )
 
 -- the body of the first version of a function is a bundle of that function
 HasShape-version : (program : ProgramView) (f : FunId) (parameters : List (List ℕ)) (version : Version)
     → IsVersion program.functions f.0 parameters version → text_body (slice_get program.functions f.0) 0 ≡ Some version.body
-    → AllByRecursion (λ line. IsReached version.body line.label) version.body.lines
+    → AllByRecursion (λ line. HasSomeScope version.body line.label) version.body.lines
     → HasShape program (record { function = f; bodies = version.body ∷ [] })
-HasShape-version program f parameters version is found reached =
+HasShape-version program f parameters version is found scoped =
     let numbered : ℕ → FunId = λ n. record { 0 = n } in
     let own : version.body.function ≡ f = ap numbered is.numbered in
     let labels : AllByRecursion (λ (line : Line). IsPlainName line.label) version.body.lines = plain_labels program.functions f.0 parameters version is in
@@ -68,7 +68,7 @@ HasShape-version program f parameters version is found reached =
           };
           differ = is.differ;
           literals = is.literals;
-          reached = reached;
+          scoped = scoped;
           labels = are-made_labels version.body.lines labels;
           free = each-free version.body version.body.lines labels (plain_variables program.functions f.0 parameters version is);
           exits = is.exits;
@@ -86,13 +86,13 @@ HasShape-version program f parameters version is found reached =
 
 -- such a bundle is lawful where a path leads to each line
 pub text_alone_is_lawful : TextAloneIsLawful
-text_alone_is_lawful program f body checked found reached =
+text_alone_is_lawful program f body checked found scoped =
     let of : IsVersionBody program.functions f.0 body = IsVersionBody-program program f 0 body checked found in
-    let Reached : BodyView → Type 0 = λ b. AllByRecursion (λ line. IsReached b line.label) b.lines in
+    let Scoped : BodyView → Type 0 = λ b. AllByRecursion (λ line. HasSomeScope b line.label) b.lines in
     let Found : BodyView → Type 0 = λ b. text_body (slice_get program.functions f.0) 0 ≡ Some b in
     let Shape : BodyView → Type 0 = λ b. HasShape program (record { function = f; bodies = b ∷ [] }) in
     record {
       shape = subst Shape of.same
-          (HasShape-version program f of.parameters of.version of.is (subst Found (sym of.same) found) (subst Reached (sym of.same) reached));
+          (HasShape-version program f of.parameters of.version of.is (subst Found (sym of.same) found) (subst Scoped (sym of.same) scoped));
       agrees = λ values heap rest output may. text_alone_agrees program f body checked found values heap rest output;
     }

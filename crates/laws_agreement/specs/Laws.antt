@@ -7,11 +7,11 @@ use Rattle.sour_syntax.specs.BodyView.{BodyView}
 use Rattle.sour_syntax.specs.Literals.{IsLiteral}
 use Rattle.sour_syntax.specs.Program.{ProgramView, IsProgram}
 use Rattle.sour_syntax.specs.Targets.{text_body}
-use Rattle.sour_semantics.specs.State.{Heap, Frame, FrameCode, text, made, Ending, returned, stopped, trapped, stuck, State}
+use Rattle.sour_semantics.specs.State.{Heap, Frame, FrameCode, text, made, Ending, returned, stopped, trapped, stuck, State, BundleView}
 use Rattle.std.specs.List.{AllByRecursion}
-use Rattle.sour_semantics.specs.Step.{Choice, Entry, text_version, bundle, BundleView, entered_code, ends, resumes, step}
+use Rattle.sour_semantics.specs.Step.{Choice, Entry, text_version, bundle, entered_code, ends, resumes, step}
 use Rattle.sour_semantics.specs.Run.{start_of, start, text_run}
-use Rattle.sour_semantics.specs.Shape.{IsReached}
+use Rattle.sour_semantics.specs.Shape.{HasSomeScope}
 use Rattle.sour_semantics.specs.Validity.{IsValid}
 use Rattle.sour_semantics.specs.Agreement.{run_by, free_run, IsShownFrom, Agree, IsLawful}
 
@@ -131,5 +131,5 @@ TextAloneAgrees = (program : ProgramView) (function : FunId) (body : BodyView) �
 -- such a bundle is lawful where a path leads to each line
 abbrev pub TextAloneIsLawful : Type 0
 TextAloneIsLawful = (program : ProgramView) (function : FunId) (body : BodyView) → IsProgram program
-    → text_body (slice_get program.functions function.0) 0 ≡ Some body → AllByRecursion (λ line. IsReached body line.label) body.lines
+    → text_body (slice_get program.functions function.0) 0 ≡ Some body → AllByRecursion (λ line. HasSomeScope body line.label) body.lines
     → IsLawful program (record { function = function; bodies = body ∷ [] })

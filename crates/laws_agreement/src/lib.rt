@@ -4,32 +4,36 @@
 
 ghost use Rattle.laws_agreement.specs.Laws.{KeepsLater, StepsAbove, RunsAbove, AgreesAbove, CallAgrees, RunsAgree, TextAgrees, RunsAreShown, TextAloneAgrees, TextAloneIsLawful};
 
-/// A run that begins with more turns has as many more.
+/// A run that begins with more turns is the same run with as many turns more at each moment.
 pub fn keeps_later()
     ensures { KeepsLater }
 {}
 
-/// A step above further frames is the same step, or returns into them.
+/// A step above further frames is the same step, or returns its value into the first of them.
 pub fn steps_above()
     ensures { StepsAbove }
 {}
 
-/// Free steps above further frames are the same steps, or the first of them return into them.
+/// Free steps above further frames are the same steps, or some of them return a value into these frames and the
+/// others go on there.
 pub fn runs_above()
     ensures { RunsAbove }
 {}
 
-/// What agrees with a run goes on to agree with it above further frames.
+/// If one state agrees with another, then above further frames it agrees with whatever the other agrees with
+/// there.
 pub fn agrees_above()
     ensures { AgreesAbove }
 {}
 
-/// Where a state agrees with one of the text, a call may enter a lawful bundle instead of the text version.
+/// If a state agrees with one of the text, so does the state after a step in which a call may enter a lawful
+/// bundle instead of the text version.
 pub fn call_agrees()
     ensures { CallAgrees }
 {}
 
-/// Each call of a run may enter a lawful bundle, another one each time.
+/// If a state agrees with one of the text, so does the state after a run each of whose calls enters the text
+/// version or a lawful bundle, another one each time.
 pub fn runs_agree()
     ensures { RunsAgree }
 {}
@@ -50,7 +54,7 @@ pub fn text_alone_agrees()
     ensures { TextAloneAgrees }
 {}
 
-/// Such a bundle is lawful where a path leads to each line.
+/// The first version of a function, as a bundle of one body, is lawful if each of its lines has a scope.
 pub fn text_alone_is_lawful()
     ensures { TextAloneIsLawful }
 {}

@@ -188,12 +188,12 @@ module _ (earlier : List BodyView) (predicates : List Expr) (code : Code) (label
       ((differs (codes "height") (codes "a") refl, tt), (tt, tt)),
     );
     literals = (owed.literals, (owed.value_literals, (tt, tt)));
-    reached = ((0, two_in_scope, path_first), ((1, two_in_scope, path_second), ((2, three_in_scope, path_third), tt)));
+    scoped = ((0, two_in_scope, path_first), ((1, two_in_scope, path_second), ((2, three_in_scope, path_third), tt)));
     labels = (
-      record { plain = refl; anchor = λ at. owed.never_traps },
+      record { begins = refl; anchor = λ at. owed.never_traps },
       (
-        record { plain = refl; anchor = λ at. absurd (false≢true at) },
-        (record { plain = refl; anchor = λ at. absurd (false≢true at) }, tt),
+        record { begins = refl; anchor = λ at. absurd (false≢true at) },
+        (record { begins = refl; anchor = λ at. absurd (false≢true at) }, tt),
       ),
     );
     free = ((λ none. absurd none), ((λ none. absurd none), ((λ some. free), tt)));

@@ -46,7 +46,7 @@ short_map_is_refused shape =
 -- no path leads to the line after the return
 pub unreached_line_is_refused : UnreachedLineIsRefused
 unreached_line_is_refused shape =
-    let (count, scope, path) = shape.each.0.reached.1.1.1.0 in
+    let (count, scope, path) = shape.each.0.scoped.1.1.1.0 in
     let none : None ≡ Some scope =
     scope_told longer_body (Some two_in_scope ∷ Some two_in_scope ∷ Some three_in_scope ∷ None ∷ []) refl (
       (record { needs = (refl, (refl, (refl, tt))); declares = tt }, (refl, tt)),

@@ -42,7 +42,7 @@ use Rattle.sour_syntax.specs.declared.literal.FunId.{FunId}
 use Rattle.sour_syntax.specs.declared.literal.Literal.TheVariants.{Function}
 use Rattle.sour_syntax.specs.BodyView.{BodyView}
 use Rattle.sour_syntax.specs.Program.{ProgramView}
-use Rattle.sour_semantics.specs.Step.{BundleView}
+use Rattle.sour_semantics.specs.State.{BundleView}
 use Rattle.laws_examples.specs.Words.{line, numbered, variable, number, gets}
 
 -- the function area

@@ -1,7 +1,7 @@
 -- Runs that enter the bundle of area, beside the run of the text.
 use Rattle.std.specs.Prelude.{◌≡◌, ℕ, List, [], ◌∷◌, false, None, Some, replicate, codes}
-use Rattle.sour_semantics.specs.State.{Frame, FrameCode, text, State, stopped}
-use Rattle.sour_semantics.specs.Step.{Choice, BundleView, bundle}
+use Rattle.sour_semantics.specs.State.{Frame, FrameCode, text, State, stopped, BundleView}
+use Rattle.sour_semantics.specs.Step.{Choice, bundle}
 use Rattle.sour_semantics.specs.Run.{start, text_run}
 use Rattle.sour_semantics.specs.Agreement.{run_by}
 use Rattle.laws_examples.specs.Words.{literal, value_of}

@@ -5,7 +5,7 @@ use Rattle.sour_syntax.specs.declared.expression.Expr.TheVariants as expr
 use Rattle.sour_syntax.specs.declared.expression.Op.TheVariants as op
 use Rattle.sour_syntax.specs.declared.instruction.Instr.TheVariants.{Stop}
 use Rattle.sour_syntax.specs.BodyView.{BodyView}
-use Rattle.sour_semantics.specs.Step.{BundleView}
+use Rattle.sour_semantics.specs.State.{BundleView}
 use Rattle.sour_semantics.specs.Shape.{HasShape}
 use Rattle.laws_examples.specs.Words.{line, number, keeps}
 use Rattle.laws_examples.specs.Area.{area, width, area_body, declares, returns, program, equals, keeps_both}

@@ -9,12 +9,12 @@ pub fn turns()
     ensures { TakesAtMostOneTurn }
 {}
 
-/// The state at which a run of the text rests is determined by the program, the input and the budget.
+/// For a program, an input and a budget there is one state at most at which the run of the text rests.
 pub fn one_rest()
     ensures { RestsOnce }
 {}
 
-/// There is such a state, whatever the valid input and the budget.
+/// A run of a checked program on a valid input rests in some state at each budget.
 pub fn some_rest()
     ensures { RestsSomewhere }
 {}
@@ -30,7 +30,8 @@ pub fn turns_come_soon()
     ensures { TurnsComeSoon }
 {}
 
-/// So it is in a run that enters text versions alone.
+/// In a run of a checked program that enters text versions alone no more than 135,168 steps follow one another
+/// without a turn.
 pub fn text_turns_come_soon()
     ensures { TextTurnsComeSoon }
 {}

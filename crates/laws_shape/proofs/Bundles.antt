@@ -6,7 +6,7 @@ use Rattle.sour_syntax.specs.BodyView.{BodyView}
 use Rattle.sour_syntax.specs.Program.{ProgramView}
 use Rattle.sour_syntax.specs.Targets.{made_body}
 use Rattle.sour_syntax.proofs.Everywhere.{slice_get-last}
-use Rattle.sour_semantics.specs.Step.{BundleView}
+use Rattle.sour_semantics.specs.State.{BundleView}
 use Rattle.sour_semantics.specs.Shape.{IsMadeBody, AreMadeBodies, HasShape}
 use Rattle.laws_simulation.specs.Tops.{with_last}
 use Rattle.laws_simulation.proofs.Tops.{tops-count, top-body, made-last, with_last-top, split-last}

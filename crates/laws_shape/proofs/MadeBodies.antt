@@ -8,7 +8,7 @@ use Rattle.sour_syntax.specs.Program.{ProgramView}
 use Rattle.sour_syntax.specs.Scopes.{Scope, HasScope}
 use Rattle.sour_syntax.proofs.Everywhere.{AllByRecursion-weaker}
 use Rattle.sour_syntax.proofs.NoExits.{All-from_label, label-from_label}
-use Rattle.sour_semantics.specs.Shape.{IsReached, IsMadeBody}
+use Rattle.sour_semantics.specs.Shape.{HasSomeScope, IsMadeBody}
 use Rattle.laws_simulation.proofs.FoundLines.{from_label-found}
 use Rattle.laws_shape.specs.MadeLines.{IsMadeLine, IsLined}
 use Rattle.laws_shape.proofs.Between.{each-between, all-between}
@@ -27,9 +27,9 @@ module _ (program : ProgramView) (earlier : List BodyView) (body : BodyView) whe
       All-from_label (IsMadeLine program earlier body) label body.lines line rest all stands
 
   -- a body is one of a bundle if its lines are
-  pub made-of-lines : IsLined program earlier body → AllByRecursion (λ line. IsReached body line.label) body.lines
+  pub made-of-lines : IsLined program earlier body → AllByRecursion (λ line. HasSomeScope body line.label) body.lines
       → length body.lines ≤ 4096 → IsMadeBody program earlier body
-  made-of-lines is reached few =
+  made-of-lines is scoped few =
       let Path : (ℕ → List ℕ → Scope → Type 0) = HasScope body in
       record {
         is = record {
@@ -49,7 +49,7 @@ module _ (program : ProgramView) (earlier : List BodyView) (body : BodyView) whe
         takes = is.takes;
         differ = is.differ;
         literals = part _ (λ line it. it.literals) is.each;
-        reached = reached;
+        scoped = scoped;
         labels = part _ (λ line it. it.label) is.each;
         free = part _ (λ line it. it.free) is.each;
         exits = record {

@@ -11,7 +11,7 @@ use Rattle.sour_syntax.specs.Program.{ProgramView}
 use Rattle.sour_syntax.specs.Scopes.{HasScope}
 use Rattle.sour_syntax.specs.Terminator.{IsTerminator, EndsInTerminator}
 use Rattle.sour_syntax.proofs.Everywhere.{AllByRecursion-weaker}
-use Rattle.sour_semantics.specs.Shape.{without_at, BeginsWith, IsFreeFor, IsReached, IsMadeBody}
+use Rattle.sour_semantics.specs.Shape.{without_at, BeginsWith, IsFreeFor, HasSomeScope, IsMadeBody}
 use Rattle.laws_simulation.specs.Relined.{relined, relined_body}
 use Rattle.laws_simulation.proofs.FoundLines.{from_label-found}
 use Rattle.laws_shape.specs.Laws.{RelinedIsMade, RelinedHasShape}
@@ -75,8 +75,8 @@ module _ (program : ProgramView) (earlier later : List BodyView) (body : BodyVie
         jumps = subst Names (sym (labels-relined change body.lines)) changed.jumps;
         mentions = changed.mentions;
         literals = changed.literals;
-        label = record { plain = is.label.plain; anchor = changed.anchor };
-        free = λ inlined. free-relined line.label (is.free (changed.inlined inlined));
+        label = record { begins = is.label.begins; anchor = changed.anchor };
+        free = λ crosses. free-relined line.label (is.free (changed.call_or_return crosses));
         named = changed.named;
         short = changed.short;
         fine = λ count scope path.
@@ -119,13 +119,13 @@ module _ (program : ProgramView) (earlier later : List BodyView) (body : BodyVie
             (all-between (λ (l : Line). IsMadeChange program later body l.label l.instr
             (change l.label l.instr)) body.lines before line after whole changed)));
       })
-      (by-labels change (λ label. IsReached (relined_body change body) label) body.lines
-      (AllByRecursion-weaker (λ (line : Line). IsReached body line.label)
-      (λ (line : Line). IsReached (relined_body change body) line.label)
+      (by-labels change (λ label. HasSomeScope (relined_body change body) label) body.lines
+      (AllByRecursion-weaker (λ (line : Line). HasSomeScope body line.label)
+      (λ (line : Line). HasSomeScope (relined_body change body) line.label)
       (λ line reached.
       let there : (steps : ℕ) × HasScope (relined_body change body) steps line.label reached.1 =
       path-onward change body keeps reached.0 line.label reached.1 reached.2 in
-      (there.0, reached.1, there.1)) body.lines is.reached))
+      (there.0, reached.1, there.1)) body.lines is.scoped))
       (subst (λ (n : ℕ). n ≤ 4096) (sym (length-map body.lines (relined change))) is.lines)
 
 -- a bundle keeps its shape if each line of its top changes to one that may stand there
@@ -141,7 +141,7 @@ relined_has_shape program change view top keeps shape found owes =
       rest = after;
       stands = ap (from_label line.label) whole ∙ from_label-found front line after
           (subst LabelsDiffer whole made.is.labels);
-      reached = all-between (λ (l : Line). IsReached top l.label) top.lines front line after whole made.reached;
+      scoped = all-between (λ (l : Line). HasSomeScope top l.label) top.lines front line after whole made.scoped;
     }))))
     refl
 
@@ -160,7 +160,7 @@ relined_is_made program earlier later body change was keeps =
       mentions = all-between _ body.lines front line after whole keeps.mentions;
       literals = all-between _ body.lines front line after whole keeps.literals;
       anchor = all-between _ body.lines front line after whole keeps.anchors;
-      inlined = keeps.inlined line.label line.instr;
+      call_or_return = keeps.call_or_return line.label line.instr;
       named = all-between _ body.lines front line after whole keeps.named;
       short = all-between _ body.lines front line after whole keeps.short;
       fine = λ count scope path. keeps.fine count line.label scope line after path (record { stands = stands });

@@ -10,8 +10,8 @@ use Rattle.sour_syntax.specs.Program.{ProgramView}
 use Rattle.sour_syntax.specs.Scopes.{Scope, HasScope}
 use Rattle.sour_syntax.specs.Targets.{made_body}
 use Rattle.sour_syntax.specs.Terminator.{EndsInTerminator}
-use Rattle.sour_semantics.specs.Step.{BundleView}
-use Rattle.sour_semantics.specs.Shape.{IsReached, IsMadeBody, AreMadeBodies, HasShape}
+use Rattle.sour_semantics.specs.State.{BundleView}
+use Rattle.sour_semantics.specs.Shape.{HasSomeScope, IsMadeBody, AreMadeBodies, HasShape}
 use Rattle.laws_simulation.specs.Relined.{relined_body}
 use Rattle.laws_simulation.specs.Spliced.{spliced}
 use Rattle.laws_simulation.specs.Tops.{with_top, with_last}
@@ -23,7 +23,7 @@ use Rattle.laws_shape.specs.Spliced.{StandsFor, EndsWell}
 -- a body is one of a bundle if its lines are lines of one, each is reached and they are few enough
 abbrev pub MadeOfLines : Type 0
 MadeOfLines = (program : ProgramView) (earlier : List BodyView) (body : BodyView) → IsLined program earlier body
-    → AllByRecursion (λ line. IsReached body line.label) body.lines → length body.lines ≤ 4096
+    → AllByRecursion (λ line. HasSomeScope body line.label) body.lines → length body.lines ≤ 4096
     → IsMadeBody program earlier body
 
 -- the lines of a body of a bundle are lines of one

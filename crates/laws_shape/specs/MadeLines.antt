@@ -12,7 +12,7 @@ use Rattle.sour_syntax.specs.Program.{ProgramView, NamesDiffer}
 use Rattle.sour_syntax.specs.Scopes.{Scope, HasScope, IsFine, mentioned}
 use Rattle.sour_syntax.specs.Targets.{IsNamed, Lands}
 use Rattle.sour_syntax.specs.Terminator.{EndsInTerminator}
-use Rattle.sour_semantics.specs.Shape.{HasMadeLabel, IsInlined, IsFreeFor, TakesParameters, IsMadeBody}
+use Rattle.sour_semantics.specs.Shape.{HasMadeLabel, IsCallOrReturn, IsFreeFor, TakesParameters, IsMadeBody}
 
 -- what holds of a line of a body of a bundle, before which there are these, but that a path leads to it
 pub record IsMadeLine (program : ProgramView) (earlier : List BodyView) (body : BodyView) (line : Line) : Type 0 where
@@ -20,7 +20,7 @@ pub record IsMadeLine (program : ProgramView) (earlier : List BodyView) (body : 
   pub mentions : AllByRecursion (λ x. x.0 < length body.variables) (mentioned line.instr)
   pub literals : AllByRecursion (IsLiteral (length program.functions)) (literals_of line.instr)
   pub label : HasMadeLabel line
-  pub free : IsInlined line.instr → IsFreeFor body line.label
+  pub free : IsCallOrReturn line.instr → IsFreeFor body line.label
   pub named : AllByRecursion (IsNamed program.functions earlier) (continuations_of line.instr)
   pub short : IsShortInstr line.instr
   -- if a path leads to it

@@ -14,7 +14,7 @@ use Rattle.sour_syntax.specs.Scopes.{Scope, HasScope, IsLineAt, IsFine, mentione
 use Rattle.sour_syntax.specs.Targets.{IsNamed, Lands}
 use Rattle.sour_syntax.specs.Terminator.{IsTerminator}
 use Rattle.sour_semantics.specs.Step.{is_anchor}
-use Rattle.sour_semantics.specs.Shape.{IsAnchorInstr, IsInlined, IsReached}
+use Rattle.sour_semantics.specs.Shape.{IsAnchorInstr, IsCallOrReturn, HasSomeScope}
 
 -- changed instructions go on to the same labels, and make the same of a scope
 pub record KeepsPaths (change : List ℕ → Instr → Instr) : Type 0 where
@@ -27,7 +27,7 @@ pub record KeepsPaths (change : List ℕ → Instr → Instr) : Type 0 where
 pub record LineStands (body : BodyView) (line : Line) : Type 0 where
   pub rest : List Line
   pub stands : from_label line.label body.lines ≡ line ∷ rest
-  pub reached : IsReached body line.label
+  pub scoped : HasSomeScope body line.label
 
 -- what is owed of the changed instruction at a label
 pub record IsMadeChange (program : ProgramView) (earlier : List BodyView) (body : BodyView) (label : List ℕ)
@@ -37,7 +37,7 @@ pub record IsMadeChange (program : ProgramView) (earlier : List BodyView) (body 
   pub mentions : AllByRecursion (λ x. x.0 < length body.variables) (mentioned new)
   pub literals : AllByRecursion (IsLiteral (length program.functions)) (literals_of new)
   pub anchor : is_anchor label ≡ true → IsAnchorInstr new
-  pub inlined : IsInlined new → IsInlined old
+  pub call_or_return : IsCallOrReturn new → IsCallOrReturn old
   pub named : AllByRecursion (IsNamed program.functions earlier) (continuations_of new)
   pub short : IsShortInstr new
   pub fine : (count : ℕ) (scope : Scope) → HasScope body count label scope → IsFine new scope
@@ -50,7 +50,7 @@ pub record KeepsShape (program : ProgramView) (later : List BodyView) (body : Bo
   pub paths : KeepsPaths change
   pub ends : (label : List ℕ) (instr : Instr) → IsTerminator instr → IsTerminator (change label instr)
   pub names : (label : List ℕ) (instr : Instr) → named_labels (change label instr) ≡ named_labels instr
-  pub inlined : (label : List ℕ) (instr : Instr) → IsInlined (change label instr) → IsInlined instr
+  pub call_or_return : (label : List ℕ) (instr : Instr) → IsCallOrReturn (change label instr) → IsCallOrReturn instr
   pub mentions : AllByRecursion (λ line. AllByRecursion (λ x. x.0 < length body.variables)
       (mentioned (change line.label line.instr))) body.lines
   pub literals : AllByRecursion (λ line. AllByRecursion (IsLiteral (length program.functions))

@@ -7,7 +7,7 @@ use Rattle.sour_syntax.specs.Program.{ProgramView}
 use Rattle.sour_syntax.proofs.NoExits.{label-from_label}
 use Rattle.sour_semantics.specs.State.{Frame}
 use Rattle.sour_semantics.specs.Step.{is_anchor}
-use Rattle.sour_semantics.specs.Shape.{IsComparison}
+use Rattle.sour_semantics.specs.Shape.{IsEqualityTest}
 use Rattle.laws_simulation.specs.Effect.{World, effect}
 use Rattle.laws_simulation.specs.Inject.{with_predicate, InjectedIsLawful}
 use Rattle.laws_simulation.specs.Instructions.{changed_at}
@@ -23,7 +23,7 @@ module _ (program : ProgramView) (leaves : Bool) (frame : Frame) (world : World)
       (told : Bool) × (effect program leaves frame world new next ≡ effect program told frame world instr next)
 
   -- with the predicate the line at the anchor does what it does without, and so does any other line
-  does-injected : (at : List ℕ) (p : Expr) (label : List ℕ) (instr : Instr) → IsComparison p
+  does-injected : (at : List ℕ) (p : Expr) (label : List ℕ) (instr : Instr) → IsEqualityTest p
       → (label ≡ at → is_anchor frame.label ≡ true)
       → Does instr (changed_at at (with_predicate p) label instr)
   does-injected at p label instr is anchor =

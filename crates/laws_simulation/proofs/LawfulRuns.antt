@@ -3,8 +3,8 @@ use Rattle.std.proofs.Common.{◌≡◌, ℕ, List, [], Some, refl, sym, ap, sub
 use Rattle.sour_syntax.specs.declared.literal.Literal.{Literal}
 use Rattle.sour_syntax.specs.declared.literal.Value.{Value}
 use Rattle.sour_syntax.specs.Program.{ProgramView, IsProgram}
-use Rattle.sour_semantics.specs.State.{Heap, Frame, FrameCode, text, made}
-use Rattle.sour_semantics.specs.Step.{BundleView, body_at, body_or_empty, body_of, entered_frame}
+use Rattle.sour_semantics.specs.State.{Heap, Frame, FrameCode, text, made, BundleView}
+use Rattle.sour_semantics.specs.Step.{body_at, body_or_empty, body_of, entered_frame}
 use Rattle.sour_semantics.specs.Run.{start_of}
 use Rattle.sour_semantics.specs.Shape.{TakesParameters, HasShape}
 use Rattle.sour_semantics.specs.Validity.{MayStart, IsValid}

@@ -15,7 +15,7 @@ use Rattle.sour_syntax.specs.Program.{ProgramView}
 use Rattle.sour_semantics.specs.State.{Environment, Heap, Frame}
 use Rattle.sour_semantics.specs.Evaluation.{eval, holds_each, holds_before, and_then, truth_in, operand, is_same, applied}
 use Rattle.sour_semantics.specs.Step.{is_anchor}
-use Rattle.sour_semantics.specs.Shape.{IsComparison, IsEquality}
+use Rattle.sour_semantics.specs.Shape.{IsEqualityTest, IsEquality}
 use Rattle.laws_simulation.specs.Effect.{World, does_try, effect}
 
 -- two predicates one after the other, of which the second gives this
@@ -24,7 +24,7 @@ also (Err trap) b = Err trap
 also (Ok false) b = Ok false
 also (Ok true) b = Ok b
 
--- a comparison has a truth value
+-- a test of equality has a truth value
 compared-by : (environment : Environment) (heap : Heap) (operator : Op) (a b : Simple) → IsEquality operator
     → applied operator (operand environment a) (operand environment b)
     ≡ Ok (Plain (Truth (is_same (operand environment a) (operand environment b))))
@@ -43,7 +43,7 @@ compared-by environment heap op.And a b is = absurd is
 compared-by environment heap op.Or a b is = absurd is
 
 -- so has an expression that compares two operands
-pub compared : (environment : Environment) (heap : Heap) (p : Expr) → IsComparison p
+pub compared : (environment : Environment) (heap : Heap) (p : Expr) → IsEqualityTest p
     → (b : Bool) × (eval environment heap p ≡ Ok (Plain (Truth b)))
 compared environment heap (expr.Plain a) is = absurd is
 compared environment heap (expr.Cell x index) is = absurd is
@@ -94,8 +94,8 @@ module _ (program : ProgramView) (frame : Frame) (world : World) (next : List �
   told-also true (Ok true) false = (true, refl)
   told-also false (Ok true) false = (true, refl)
 
-  -- at an anchor a further comparison is what leaving when told makes of the others
-  pub does-more : (leaves : Bool) (es : List Expr) (p : Expr) → IsComparison p → is_anchor frame.label ≡ true
+  -- at an anchor a further test of equality is what leaving when told makes of the others
+  pub does-more : (leaves : Bool) (es : List Expr) (p : Expr) → IsEqualityTest p → is_anchor frame.label ≡ true
       → (told : Bool) ×
       (effect program leaves frame world (Assume (es ++ p ∷ []) exit) next
       ≡ effect program told frame world (Assume es exit) next)

@@ -7,8 +7,8 @@ use Rattle.sour_syntax.specs.BodyView.{BodyView}
 use Rattle.sour_syntax.specs.Labels.{from_label, first_label}
 use Rattle.sour_syntax.specs.Program.{ProgramView, IsProgram}
 use Rattle.sour_syntax.specs.Targets.{made_body}
-use Rattle.sour_semantics.specs.State.{Frame, FrameCode}
-use Rattle.sour_semantics.specs.Step.{BundleView, lines_of, entered_frame}
+use Rattle.sour_semantics.specs.State.{Frame, FrameCode, BundleView}
+use Rattle.sour_semantics.specs.Step.{lines_of, entered_frame}
 use Rattle.sour_semantics.specs.Shape.{IsMadeBody, HasShape}
 use Rattle.sour_semantics.specs.Validity.{IsValidFrame}
 use Rattle.sour_semantics.specs.Agreement.{IsLawful}

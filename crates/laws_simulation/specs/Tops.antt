@@ -6,8 +6,7 @@ use Rattle.sour_syntax.specs.declared.literal.Value.{Value}
 use Rattle.sour_syntax.specs.BodyView.{BodyView}
 use Rattle.sour_syntax.specs.Labels.{from_label}
 use Rattle.sour_syntax.specs.Program.{ProgramView}
-use Rattle.sour_semantics.specs.State.{Environment, Frame, made, State}
-use Rattle.sour_semantics.specs.Step.{BundleView}
+use Rattle.sour_semantics.specs.State.{Environment, Frame, made, State, BundleView}
 use Rattle.sour_semantics.specs.Validity.{IsValidFrame}
 use Rattle.laws_simulation.specs.Carries.{TiesBack, StandsAt, made_frame, StepsBack, IsFollowedFrom}
 use Rattle.laws_simulation.specs.Carry.{Carrying, back}

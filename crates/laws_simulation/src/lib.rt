@@ -28,7 +28,7 @@ pub fn alike_lands_back()
     ensures { AlikeLandsBack }
 {}
 
-/// A lawful bundle stays lawful with one comparison more at an anchor of its top, if it keeps its shape.
+/// A lawful bundle stays lawful with one test of equality more at an anchor of its top, if it keeps its shape.
 pub fn injected_is_lawful()
     ensures { InjectedIsLawful }
 {}

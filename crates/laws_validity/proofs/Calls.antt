@@ -11,8 +11,8 @@ use Rattle.sour_syntax.specs.declared.literal.VarId.{VarId}
 use Rattle.sour_syntax.specs.declared.trap.Trap.TheVariants.{ArgCount}
 use Rattle.sour_syntax.specs.BodyView.{BodyView}
 use Rattle.sour_syntax.specs.Program.{ProgramView}
-use Rattle.sour_semantics.specs.State.{Frame, FrameCode, text, made, trapped, State}
-use Rattle.sour_semantics.specs.Step.{Entry, text_version, BundleView, bundle, body_at, ends, entered_code, entered_frame, waits_for, enters, calls}
+use Rattle.sour_semantics.specs.State.{Frame, FrameCode, text, made, trapped, State, BundleView}
+use Rattle.sour_semantics.specs.Step.{Entry, text_version, bundle, body_at, ends, entered_code, entered_frame, waits_for, enters, calls}
 use Rattle.sour_semantics.specs.Validity.{IsCode, IsValid, MayEnter}
 use Rattle.laws_validity.proofs.Values.{IsValueOf}
 use Rattle.laws_validity.proofs.Frames.{StandsBefore, IsValidFrame-entered}

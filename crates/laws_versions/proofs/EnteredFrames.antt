@@ -15,9 +15,9 @@ use Rattle.sour_syntax.specs.declared.trap.Trap.TheVariants.{ArgCount}
 use Rattle.sour_syntax.specs.BodyView.{BodyView}
 use Rattle.sour_syntax.specs.Labels.{from_label, first_label}
 use Rattle.sour_syntax.specs.Program.{ProgramView}
-use Rattle.sour_semantics.specs.State.{Frame, FrameCode, text, made, trapped, State, Ending}
+use Rattle.sour_semantics.specs.State.{Frame, FrameCode, text, made, trapped, State, Ending, BundleView}
 use Rattle.sour_semantics.specs.Evaluation.{function_in, operand, eval_each}
-use Rattle.sour_semantics.specs.Step.{Entry, text_version, bundle, BundleView, text_choice, step, given, takes_turn}
+use Rattle.sour_semantics.specs.Step.{Entry, text_version, bundle, text_choice, step, given, takes_turn}
 use Rattle.sour_semantics.specs.Step.{ends, body_at, lines_of, entered_code, entered_frame, waits_for, enters, calls}
 use Rattle.sour_semantics.specs.Step.{act, act_first}
 use Rattle.sour_semantics.specs.Shape.{TakesParameters, HasShape}

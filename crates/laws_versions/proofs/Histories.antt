@@ -5,7 +5,8 @@ use Rattle.std.proofs.Common.{slice_get, take, drop, refl, sym, ap, subst, â—Œâˆ
 use Rattle.std.proofs.lemmas.List.{append-nil, append_assoc, length-append, take-append-drop, take-append-le}
 use Rattle.std.proofs.Math.Seq.{take-add, take-length}
 use Rattle.sour_syntax.specs.declared.literal.FunId.{FunId}
-use Rattle.sour_semantics.specs.Step.{bundle, BundleView}
+use Rattle.sour_semantics.specs.State.{BundleView}
+use Rattle.sour_semantics.specs.Step.{bundle}
 use Rattle.sour_versions.specs.History.{History, publish, bundles_of, number_of, entry_or_text, entry_numbered}
 use Rattle.sour_versions.specs.History.{Extends}
 

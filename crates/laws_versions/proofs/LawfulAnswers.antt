@@ -5,7 +5,8 @@ use Rattle.std.specs.List.{AllByRecursion}
 use Rattle.std.proofs.lemmas.Bool.{eqb-true}
 use Rattle.sour_syntax.specs.declared.literal.FunId.{FunId}
 use Rattle.sour_syntax.specs.Program.{ProgramView}
-use Rattle.sour_semantics.specs.Step.{Entry, text_version, bundle, BundleView}
+use Rattle.sour_semantics.specs.State.{BundleView}
+use Rattle.sour_semantics.specs.Step.{Entry, text_version, bundle}
 use Rattle.sour_semantics.specs.Validity.{MayEnter}
 use Rattle.sour_semantics.specs.Agreement.{IsLawful}
 use Rattle.laws_agreement.specs.Laws.{IsLawfulEntry}

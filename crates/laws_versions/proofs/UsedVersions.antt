@@ -5,7 +5,8 @@ use Rattle.std.specs.Cmp.Derive.{both_true}
 use Rattle.std.proofs.lemmas.Bool.{eqb-true, eq-eqb}
 use Rattle.sour_syntax.specs.declared.literal.FunId.{FunId}
 use Rattle.sour_syntax.proofs.Everywhere.{AllByRecursion-weaker, AllByRecursion-append}
-use Rattle.sour_semantics.specs.Step.{Entry, text_version, bundle, BundleView}
+use Rattle.sour_semantics.specs.State.{BundleView}
+use Rattle.sour_semantics.specs.Step.{Entry, text_version, bundle}
 use Rattle.sour_versions.specs.History.{History, bundles_of, number_of, entry_or_text, entry_numbered, active_of}
 use Rattle.sour_versions.specs.History.{Extends}
 use Rattle.sour_versions.specs.CallLog.{UsedVersion, used_as, entry_used}

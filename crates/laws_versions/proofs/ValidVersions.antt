@@ -7,8 +7,8 @@ use Rattle.sour_syntax.specs.declared.literal.Literal.{Literal}
 use Rattle.sour_syntax.specs.BodyView.{BodyView}
 use Rattle.sour_syntax.specs.Literals.{IsLiteral}
 use Rattle.sour_syntax.specs.Program.{ProgramView, IsProgram}
-use Rattle.sour_semantics.specs.State.{FrameCode, text, made, State}
-use Rattle.sour_semantics.specs.Step.{Entry, text_version, bundle, BundleView}
+use Rattle.sour_semantics.specs.State.{FrameCode, text, made, State, BundleView}
+use Rattle.sour_semantics.specs.Step.{Entry, text_version, bundle}
 use Rattle.sour_semantics.specs.Step.{entered_code, body_at}
 use Rattle.sour_semantics.specs.Validity.{IsCode, IsValid, MayEnter}
 use Rattle.laws_validity.proofs.Runs.{IsValid-start_of, MayStart-main, runs_main, IsValid-run_by}

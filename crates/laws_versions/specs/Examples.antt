@@ -8,8 +8,8 @@ use Rattle.sour_syntax.specs.declared.literal.FunId.{FunId}
 use Rattle.sour_syntax.specs.declared.literal.Literal.TheVariants.{Number, Function}
 use Rattle.sour_syntax.specs.BodyView.{BodyView}
 use Rattle.sour_syntax.specs.Program.{ProgramView}
-use Rattle.sour_semantics.specs.State.{stopped}
-use Rattle.sour_semantics.specs.Step.{text_version, bundle, BundleView}
+use Rattle.sour_semantics.specs.State.{stopped, BundleView}
+use Rattle.sour_semantics.specs.Step.{text_version, bundle}
 use Rattle.sour_versions.specs.History.{publish, TableRead}
 use Rattle.sour_versions.specs.Fits.{Fits}
 use Rattle.sour_versions.specs.VersionRun.{Counted, version_run, version_start, all_calls}

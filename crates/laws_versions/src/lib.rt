@@ -37,7 +37,7 @@ pub fn version_goes_on_adds()
     ensures { VersionGoesOnAdds }
 {}
 
-/// So it is in a run of the text.
+/// For a run of the text to go on by some turns and then by others is to go on by all of them.
 pub fn text_goes_on_adds()
     ensures { TextGoesOnAdds }
 {}
@@ -59,7 +59,7 @@ pub fn version_turns_come_soon()
     ensures { VersionTurnsComeSoon }
 {}
 
-/// There is such a moment if the program is a checked one and the input valid, whatever each call enters
+/// A run of a checked program on a valid input rests at some moment at each budget, whatever each call enters
 /// that has its shape.
 pub fn version_rests_somewhere()
     ensures { VersionRestsSomewhere }
@@ -91,7 +91,7 @@ pub fn text_may_show()
     ensures { TextMayShow }
 {}
 
-/// So may what runs of the text alone show for all inputs.
+/// What runs of the text alone show for all inputs may be shown for all inputs.
 pub fn all_text_may_show()
     ensures { AllTextMayShow }
 {}
@@ -151,7 +151,7 @@ pub fn rounds_enter_active()
     ensures { RoundsEnterActive }
 {}
 
-/// If nothing was published at all, it goes on as the run of the text.
+/// If nothing was published at all, a run goes on as the run of the text.
 pub fn rounds_over_nothing()
     ensures { RoundsOverNothing }
 {}

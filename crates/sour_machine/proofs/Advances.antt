@@ -37,11 +37,12 @@ use Rattle.sour_machine.specs.declared.report.End.{End}
 use Rattle.sour_machine.specs.declared.report.End.TheVariants.{Returned, Stopped, Trapped, Cut, Memory}
 use Rattle.sour_machine.specs.End.{ending_of, is_memory}
 use Rattle.sour_machine.specs.Frame.{code_of, frame_lines, frame_at, waiting_at, StandsAtLine, StandsWaiting}
-use Rattle.sour_machine.specs.Instruction.{IsReady, ActsAs, IsCrossing, LeadsOut, GoesFurther, ComesTo, StaysInFrame, StandsCrossing, jump_at, jumps_away, turns_after}
+use Rattle.sour_semantics.specs.Shape.{IsCallOrReturn}
+use Rattle.sour_machine.specs.Instruction.{IsReady, ActsAs, LeadsOut, GoesFurther, ComesTo, StaysInFrame, StandsCrossing, jump_at, jumps_away, turns_after}
 use Rattle.sour_machine.specs.Moment.{state_at, run_at, Stands}
 use Rattle.sour_machine.specs.Run.{GoesOn, IsAtTurns, is_call, first_calls, top_calls}
 use Rattle.sour_machine.specs.Want.{TakesMemoryInside, TakesMemory, WantsMemory}
-use Rattle.sour_machine.proofs.Checked.{IsBodyOf-runs, HasExits-runs, plain-line}
+use Rattle.sour_machine.proofs.Checked.{IsBodyOf-runs, HasExits-runs, no_anchor-line}
 use Rattle.laws_validity.proofs.Bodies.{depth, IsBodyOf}
 use Rattle.sour_machine.proofs.Jumps.{Contains-following_labels}
 use Rattle.sour_machine.proofs.Instructions.{turns_jumping, turns_inside, turns-crosses}
@@ -134,11 +135,11 @@ module _ (program : ProgramView) (moment : Moment) (line : Line) (at : IsAt prog
   }
 
   -- its label is that of no anchor
-  pub plain-at : is_anchor (label_at (frame_lines program moment.frame) moment.frame.place) ≡ false
-  plain-at =
+  pub no_anchor-at : is_anchor (label_at (frame_lines program moment.frame) moment.frame.place) ≡ false
+  no_anchor-at =
       ap (λ lines. is_anchor (first_label lines))
       (drop-slice_get (frame_lines program moment.frame) moment.frame.place line at.found)
-      ∙ plain-line program moment.frame.code line
+      ∙ no_anchor-line program moment.frame.code line
       (AllByRecursion-found (λ (line : Line). is_anchor line.label ≡ true → 0 < depth (code_of moment.frame.code))
       (frame_lines program moment.frame) moment.frame.place line at.one.anchors at.found)
 
@@ -253,17 +254,17 @@ IsAtTurns-line program input moment budget line at takes used =
 
 -- an instruction that goes to a label, enters a frame or leaves one takes a turn
 turns_behind-more : (program : ProgramView) (input : List Literal) (moment : Moment) (line : Line) → IsAt program moment line
-    → IsTrue (jumps_away line.instr) ⊎ IsCrossing line.instr ⊎ LeadsOut line.instr moment.frame.env moment.heap → turns_behind program input moment line ≡ moment.turns + 1
+    → IsTrue (jumps_away line.instr) ⊎ IsCallOrReturn line.instr ⊎ LeadsOut line.instr moment.frame.env moment.heap → turns_behind program input moment line ≡ moment.turns + 1
 turns_behind-more program input moment line at (inl jumps) =
     turns_jumping line.instr jumps program text_choice (frame_at program moment.frame None) (label_at (frame_lines program moment.frame) (moment.frame.place + 1)) (state_at program input moment)
 turns_behind-more program input moment line at (inr crosses) =
     turns-crosses program (frame_at program moment.frame None) line.instr
     (label_at (frame_lines program moment.frame) (moment.frame.place + 1)) (state_at program input moment)
-    (plain-at program moment line at) crosses
+    (no_anchor-at program moment line at) crosses
 
 -- so a run that has used its budget up rests there
 pub IsAtTurns-more : (program : ProgramView) (input : List Literal) (old new : Moment) (budget : ℕ) (line : Line) → IsAt program old line
-    → IsTrue (jumps_away line.instr) ⊎ IsCrossing line.instr ⊎ LeadsOut line.instr old.frame.env old.heap → old.turns ≡ budget → new ≡ old
+    → IsTrue (jumps_away line.instr) ⊎ IsCallOrReturn line.instr ⊎ LeadsOut line.instr old.frame.env old.heap → old.turns ≡ budget → new ≡ old
     → (new.end ≡ Cut) × IsAtTurns budget (run_at program input true new)
 IsAtTurns-more program input old new budget line at more used same =
     let At : Moment → Type 0 = λ moment. (moment.end ≡ Cut) × IsAtTurns budget (run_at program input true moment) in
@@ -344,7 +345,7 @@ has_memory-act instr places environment new Cut comes is = cc
 has_memory-act instr places environment new Memory comes is = comes
 
 -- the run stands at an instruction that enters a frame or leaves one
-pub StandsCrossing-line : (program : ProgramView) (budget : ℕ) (old new : Moment) (line : Line) → IsAt program old line → new ≡ old → IsCrossing line.instr ⊎ LeadsOut line.instr old.frame.env old.heap → old.turns < budget
+pub StandsCrossing-line : (program : ProgramView) (budget : ℕ) (old new : Moment) (line : Line) → IsAt program old line → new ≡ old → IsCallOrReturn line.instr ⊎ LeadsOut line.instr old.frame.env old.heap → old.turns < budget
     → StandsCrossing program budget new
 StandsCrossing-line program budget old new line at same crosses left =
     let At : Moment → Type 0 = StandsCrossing program budget in

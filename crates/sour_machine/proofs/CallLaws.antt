@@ -26,10 +26,11 @@ use Rattle.sour_machine.specs.declared.report.End.{End}
 use Rattle.sour_machine.specs.declared.report.End.TheVariants.{Returned, Stopped, Trapped, Cut, Memory}
 use Rattle.sour_machine.specs.End.{ending_of}
 use Rattle.sour_machine.specs.Frame.{code_of, frame_lines, frame_at, StandsAtLine, StandsWaiting}
-use Rattle.sour_machine.specs.Instruction.{IsReady, ActsAs, IsCrossing, LeadsOut, EntersOr, CrossesTo, StandsCrossing}
+use Rattle.sour_semantics.specs.Shape.{IsCallOrReturn}
+use Rattle.sour_machine.specs.Instruction.{IsReady, ActsAs, LeadsOut, EntersOr, CrossesTo, StandsCrossing}
 use Rattle.sour_machine.specs.Moment.{state_at, run_at, Stands}
 use Rattle.sour_machine.specs.Run.{GoesOn, is_call, top_calls, entered_by}
-use Rattle.sour_machine.proofs.Advances.{IsAt, IsAt-lines, plain-at, IsReady-line, StandsAtLine-next, step-state_at, top_calls-line}
+use Rattle.sour_machine.proofs.Advances.{IsAt, IsAt-lines, no_anchor-at, IsReady-line, StandsAtLine-next, step-state_at, top_calls-line}
 use Rattle.sour_machine.proofs.Instructions.{turns-crosses}
 use Rattle.sour_machine.proofs.RunLaws.{entered-none, entered-ended, entered-one, GoesOn-one, GoesOn-on}
 
@@ -154,7 +155,7 @@ GoesOn-crossed program input old mid new line at acts crossed on =
 pub record ReadsCrossing (program : ProgramView) (budget : ℕ) (moment : Moment) (line : Line) : Type 0 where
   pub at : IsAt program moment line
   pub left : moment.turns < budget
-  pub crosses : IsCrossing line.instr ⊎ LeadsOut line.instr moment.frame.env moment.heap
+  pub crosses : IsCallOrReturn line.instr ⊎ LeadsOut line.instr moment.frame.env moment.heap
 
 -- where a run stands at such a line, it is the one at its frame's place among the lines of the body
 pub ReadsCrossing-lines : (program : ProgramView) (input : List Literal) (budget : ℕ) (start moment : Moment)
@@ -168,14 +169,14 @@ ReadsCrossing-lines program input budget start moment body lines default checked
     (stands.at_line crossing.going) in
     let same : crossing.line ≡ get_or lines moment.frame.place default =
     same_Some crossing.line (get_or lines moment.frame.place default) (sym crossing.found ∙ at.found) in
-    let Crosses : Line → Type 0 = λ line. IsCrossing line.instr ⊎ LeadsOut line.instr moment.frame.env moment.heap in
+    let Crosses : Line → Type 0 = λ line. IsCallOrReturn line.instr ⊎ LeadsOut line.instr moment.frame.env moment.heap in
     record { at = at; left = crossing.left; crosses = subst Crosses same crossing.crosses }
 
 -- the turn that it takes
-pub turns-crossing : (program : ProgramView) (input : List Literal) (old new : Moment) (line : Line) → IsAt program old line → IsCrossing line.instr ⊎ LeadsOut line.instr old.frame.env old.heap
+pub turns-crossing : (program : ProgramView) (input : List Literal) (old new : Moment) (line : Line) → IsAt program old line → IsCallOrReturn line.instr ⊎ LeadsOut line.instr old.frame.env old.heap
     → ActsAs program input line.instr old new → new.turns ≡ old.turns + 1
 turns-crossing program input old new line at crosses acts =
     ap (λ (s : State). s.turns) acts
     ∙ turns-crosses program (frame_at program old.frame None) line.instr
     (label_at (frame_lines program old.frame) (old.frame.place + 1)) (state_at program input old)
-    (plain-at program old line at) crosses
+    (no_anchor-at program old line at) crosses

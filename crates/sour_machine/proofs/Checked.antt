@@ -25,10 +25,10 @@ IsBodyOf-runs program (Text function version) body checked runs =
     IsBodyOf-code program (text function version) body checked tt runs
 
 -- a line of it, as one of a version, is no anchor
-pub plain-line : (program : ProgramView) (code : FrameCode) (line : Line)
+pub no_anchor-line : (program : ProgramView) (code : FrameCode) (line : Line)
     → (is_anchor line.label ≡ true → 0 < depth (code_of code))
     → is_anchor line.label ≡ false
-plain-line program (Text function version) line above =
+no_anchor-line program (Text function version) line above =
     false_from_ne_true (is_anchor line.label) (λ anchor. absurd (omega (arith, above anchor)))
 
 -- the exits of what may be a version lead where they may, if those of a version do

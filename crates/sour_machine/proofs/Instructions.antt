@@ -21,7 +21,8 @@ use Rattle.sour_semantics.specs.State.{Frame, FrameCode, State, trapped}
 use Rattle.sour_semantics.specs.Step.{Entry, Choice, text_choice, body_at, ends, takes_turn, landed_frames, replaces_top, leaves, is_anchor, takes_exit_turn, assumes, stays, goes_to, sets, given, branches, cell_limit, count_heap, next_array, makes, makes_empty, output_limit, prints, waits_for, entered_frame, entered_code, enters, calls, resumes, returns, act}
 use Rattle.sour_semantics.specs.Evaluation.{eval, eval_each, operand, number_in, truth_in, function_in, holds_each}
 use Rattle.sour_semantics.specs.Text.{value_text}
-use Rattle.sour_machine.specs.Instruction.{IsCrossing, LeadsOut, jumps_away}
+use Rattle.sour_semantics.specs.Shape.{IsCallOrReturn}
+use Rattle.sour_machine.specs.Instruction.{LeadsOut, jumps_away}
 use Rattle.sour_machine.specs.Want.{TakesMemoryInside}
 
 -- an assume that doesn't hold leaves
@@ -158,7 +159,7 @@ pub turns_return : (expr : Expr) → AlwaysTakesTurn (Return expr)
 turns_return expr program choice frame next s = turns-given_returns (eval frame.environment s.heap expr) s.frames (takes_turn s)
 
 -- a call or a return takes a turn
-pub turns_crossing : (instr : Instr) → IsCrossing instr → AlwaysTakesTurn instr
+pub turns_crossing : (instr : Instr) → IsCallOrReturn instr → AlwaysTakesTurn instr
 turns_crossing (Var x e) crosses = absurd crosses
 turns_crossing (Drop x) crosses = absurd crosses
 turns_crossing (Assign x e) crosses = absurd crosses
@@ -180,30 +181,30 @@ turns-leaves program frame exit s = turns-given (landed_frames program frame s.h
 
 -- an assume that leaves takes a turn where it is no anchor
 turns-assumes : (program : ProgramView) (frame : Frame) (exit : Exit) (next : List ℕ) (s : State) → is_anchor frame.label ≡ false → (assumes program frame exit next false s).turns ≡ s.turns + 1
-turns-assumes program frame exit next s plain =
-    turns-leaves program frame exit (takes_exit_turn (is_anchor frame.label) s) ∙ ap (λ anchor. (takes_exit_turn anchor s).turns) plain
+turns-assumes program frame exit next s no_anchor =
+    turns-leaves program frame exit (takes_exit_turn (is_anchor frame.label) s) ∙ ap (λ anchor. (takes_exit_turn anchor s).turns) no_anchor
 
 -- an instruction that leads out takes a turn where it is no anchor
 pub turns-out : (program : ProgramView) (frame : Frame) (instr : Instr) (next : List ℕ) (s : State) → is_anchor frame.label ≡ false → LeadsOut instr frame.environment s.heap
     → (act program text_choice frame instr next s).turns ≡ s.turns + 1
-turns-out program frame (Var x e) next s plain out = absurd out
-turns-out program frame (Drop x) next s plain out = absurd out
-turns-out program frame (Assign x e) next s plain out = absurd out
-turns-out program frame (ArrayLength x e) next s plain out = absurd out
-turns-out program frame (ArrayList x es) next s plain out = absurd out
-turns-out program frame (Store x index e) next s plain out = absurd out
-turns-out program frame (Print e) next s plain out = absurd out
-turns-out program frame (Read x) next s plain out = absurd out
-turns-out program frame (Branch e a b) next s plain out = absurd out
-turns-out program frame (Goto a) next s plain out = absurd out
-turns-out program frame (Call x callee es) next s plain out = absurd out
-turns-out program frame (Return e) next s plain out = absurd out
-turns-out program frame Stop next s plain out = absurd out
-turns-out program frame (Assume es exit) next s plain out =
-    ap (λ (state : State). state.turns) (act-leaves program frame es exit next s out) ∙ turns-assumes program frame exit next s plain
+turns-out program frame (Var x e) next s no_anchor out = absurd out
+turns-out program frame (Drop x) next s no_anchor out = absurd out
+turns-out program frame (Assign x e) next s no_anchor out = absurd out
+turns-out program frame (ArrayLength x e) next s no_anchor out = absurd out
+turns-out program frame (ArrayList x es) next s no_anchor out = absurd out
+turns-out program frame (Store x index e) next s no_anchor out = absurd out
+turns-out program frame (Print e) next s no_anchor out = absurd out
+turns-out program frame (Read x) next s no_anchor out = absurd out
+turns-out program frame (Branch e a b) next s no_anchor out = absurd out
+turns-out program frame (Goto a) next s no_anchor out = absurd out
+turns-out program frame (Call x callee es) next s no_anchor out = absurd out
+turns-out program frame (Return e) next s no_anchor out = absurd out
+turns-out program frame Stop next s no_anchor out = absurd out
+turns-out program frame (Assume es exit) next s no_anchor out =
+    ap (λ (state : State). state.turns) (act-leaves program frame es exit next s out) ∙ turns-assumes program frame exit next s no_anchor
 
 -- either way
-pub turns-crosses : (program : ProgramView) (frame : Frame) (instr : Instr) (next : List ℕ) (s : State) → is_anchor frame.label ≡ false → IsCrossing instr ⊎ LeadsOut instr frame.environment s.heap
+pub turns-crosses : (program : ProgramView) (frame : Frame) (instr : Instr) (next : List ℕ) (s : State) → is_anchor frame.label ≡ false → IsCallOrReturn instr ⊎ LeadsOut instr frame.environment s.heap
     → (act program text_choice frame instr next s).turns ≡ s.turns + 1
-turns-crosses program frame instr next s plain (inl crosses) = turns_crossing instr crosses program text_choice frame next s
-turns-crosses program frame instr next s plain (inr out) = turns-out program frame instr next s plain out
+turns-crosses program frame instr next s no_anchor (inl crosses) = turns_crossing instr crosses program text_choice frame next s
+turns-crosses program frame instr next s no_anchor (inr out) = turns-out program frame instr next s no_anchor out

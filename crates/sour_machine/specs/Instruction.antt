@@ -12,6 +12,7 @@ use Rattle.sour_syntax.specs.Program.{ProgramView}
 use Rattle.sour_syntax.specs.Scopes.{IsInScope, needed, mentioned, scope_after}
 use Rattle.sour_semantics.specs.State.{Environment, Heap}
 use Rattle.sour_semantics.specs.Evaluation.{holds_each}
+use Rattle.sour_semantics.specs.Shape.{IsCallOrReturn}
 use Rattle.sour_semantics.specs.Step.{text_choice, act}
 use Rattle.sour_semantics.specs.Validity.{scope_of}
 use Rattle.sour_machine.specs.declared.activation.Waiting.{Waiting}
@@ -30,23 +31,6 @@ pub record IsReady (instr : Instr) (environment : Environment) : Type 0 where
 abbrev pub ActsAs : ProgramView → List Literal → Instr → Moment → Moment → Type 0
 ActsAs program input instr old new =
     state_at program input new ≡ act program text_choice (frame_at program old.frame None) instr (label_at (frame_lines program old.frame) (old.frame.place + 1)) (state_at program input old)
-
--- it is a call or a return
-abbrev pub IsCrossing : Instr → Type 0
-IsCrossing (Var x e) = ⊥
-IsCrossing (Drop x) = ⊥
-IsCrossing (Assign x e) = ⊥
-IsCrossing (ArrayLength x e) = ⊥
-IsCrossing (ArrayList x es) = ⊥
-IsCrossing (Store x index e) = ⊥
-IsCrossing (Print e) = ⊥
-IsCrossing (Read x) = ⊥
-IsCrossing (Branch e a b) = ⊥
-IsCrossing (Goto a) = ⊥
-IsCrossing (Call x callee es) = Unit {0}
-IsCrossing (Return e) = Unit {0}
-IsCrossing Stop = ⊥
-IsCrossing (Assume es exit) = ⊥
 
 -- the run goes on in the same frame at one of these places, with the scope that the instruction leaves of this environment
 pub record GoesFurther (instr : Instr) (places : List ℕ) (environment : Environment) (new : Moment) : Type 0 where
@@ -152,7 +136,7 @@ pub record StandsCrossing (program : ProgramView) (budget : ℕ) (moment : Momen
   pub left : moment.turns < budget
   pub line : Line
   pub found : slice_get (frame_lines program moment.frame) moment.frame.place ≡ Some line
-  pub crosses : IsCrossing line.instr ⊎ LeadsOut line.instr moment.frame.env moment.heap
+  pub crosses : IsCallOrReturn line.instr ⊎ LeadsOut line.instr moment.frame.env moment.heap
 
 -- the jump at a place
 abbrev pub jump_at : List Jump → ℕ → Jump

@@ -16,7 +16,8 @@ ghost use Rattle.sour_machine.specs.Scope.{HasValues, HasValuesOfEach};
 ghost use Rattle.sour_machine.specs.Frame.{frame_lines};
 ghost use Rattle.sour_machine.specs.Moment.{state_at};
 ghost use Rattle.sour_machine.specs.Run.{is_call};
-ghost use Rattle.sour_machine.specs.Instruction.{IsReady, ActsAs, IsCrossing, LeadsOut, ComesTo, StaysInFrame, jump_at, jumps_away, turns_after};
+ghost use Rattle.sour_semantics.specs.Shape.{IsCallOrReturn};
+ghost use Rattle.sour_machine.specs.Instruction.{IsReady, ActsAs, LeadsOut, ComesTo, StaysInFrame, jump_at, jumps_away, turns_after};
 ghost use Rattle.sour_machine.specs.Want.{TakesMemoryInside};
 
 use crate::arrays::{make_empty, make_list, store};
@@ -68,8 +69,8 @@ pub(crate) fn act(
     ensures enters_none { result ≡ Ok Acted.Inside → is_call instr.now ≡ false }
     ensures turns { result ≡ Ok Acted.Inside → moment.new.turns ≡ turns_after (jumps_away instr.now) moment.old.turns }
     ensures left { moment.new.turns ≤ budget }
-    ensures crossing { result ≡ Ok Acted.Crossing → (IsCrossing instr.now ⊎ LeadsOut instr.now moment.old.frame.env moment.old.heap) × (moment.old.turns < budget) × (moment.new ≡ moment.old) }
-    ensures more_turns { result ≡ Ok Acted.MoreTurns → (IsTrue (jumps_away instr.now) ⊎ IsCrossing instr.now ⊎ LeadsOut instr.now moment.old.frame.env moment.old.heap) × (moment.old.turns ≡ budget) × (moment.new ≡ moment.old) }
+    ensures crossing { result ≡ Ok Acted.Crossing → (IsCallOrReturn instr.now ⊎ LeadsOut instr.now moment.old.frame.env moment.old.heap) × (moment.old.turns < budget) × (moment.new ≡ moment.old) }
+    ensures more_turns { result ≡ Ok Acted.MoreTurns → (IsTrue (jumps_away instr.now) ⊎ IsCallOrReturn instr.now ⊎ LeadsOut instr.now moment.old.frame.env moment.old.heap) × (moment.old.turns ≡ budget) × (moment.new ≡ moment.old) }
     ensures stays { StaysInFrame moment.old moment.new }
     ensures within { moment.new.read ≤ length input.now }
     ensures err { OnErr result (moment.new ≡ moment.old) }

@@ -19,7 +19,8 @@ ghost use Rattle.sour_machine.specs.Scope.{HasValues, HasValuesOfEach};
 ghost use Rattle.sour_machine.specs.Frame.{code_of, frame_lines};
 ghost use Rattle.sour_machine.specs.Moment.{state_at};
 ghost use Rattle.sour_machine.specs.Run.{is_call};
-ghost use Rattle.sour_machine.specs.Instruction.{IsReady, ActsAs, IsCrossing, LeadsOut, EntersOr, HasPlaces, Leaves, CrossesTo};
+ghost use Rattle.sour_semantics.specs.Shape.{IsCallOrReturn};
+ghost use Rattle.sour_machine.specs.Instruction.{IsReady, ActsAs, LeadsOut, EntersOr, HasPlaces, Leaves, CrossesTo};
 ghost use Rattle.sour_machine.specs.Leaving.{StandsAtInstr};
 
 use crate::activation::{Activation, Waiting};
@@ -233,10 +234,10 @@ pub(crate) fn cross(
     requires place { moment.old.frame.place + 1 < 2 ^ 64 }
     requires turns { moment.old.turns + 1 < 2 ^ 64 }
     requires calls { moment.old.calls + 1 < 2 ^ 64 }
-    requires crossing { IsCrossing instr.now ⊎ LeadsOut instr.now moment.old.frame.env moment.old.heap }
+    requires crossing { IsCallOrReturn instr.now ⊎ LeadsOut instr.now moment.old.frame.env moment.old.heap }
     requires ready { IsReady instr.now moment.old.frame.env }
     requires stands { StandsAtInstr program.now moment.old.frame instr.now }
-    requires plain { is_anchor (label_at (frame_lines program.now moment.old.frame) moment.old.frame.place) ≡ false }
+    requires no_anchor { is_anchor (label_at (frame_lines program.now moment.old.frame) moment.old.frame.place) ≡ false }
     requires named { AllByRecursion (IsNamed program.now.functions []) (continuations_of instr.now) }
     requires lands { AllByRecursion (Lands program.now.functions []) (continuations_of instr.now) }
     requires places { AllByRecursion HasPlaces moment.old.below }

@@ -3,8 +3,8 @@ use Rattle.std.specs.Prelude.{◌≡◌, ◌≤◌, ℕ, List, [], ◌∷◌, Bo
 use Rattle.sour_syntax.specs.declared.literal.Literal.{Literal}
 use Rattle.sour_syntax.specs.declared.literal.Value.{Value}
 use Rattle.sour_syntax.specs.Program.{ProgramView}
-use Rattle.sour_semantics.specs.State.{Heap, text, made, State}
-use Rattle.sour_semantics.specs.Step.{Choice, text_version, BundleView, step, body_of}
+use Rattle.sour_semantics.specs.State.{Heap, text, made, State, BundleView}
+use Rattle.sour_semantics.specs.Step.{Choice, text_version, step, body_of}
 use Rattle.sour_semantics.specs.Run.{start_of, text_run}
 use Rattle.sour_semantics.specs.Shape.{HasShape}
 use Rattle.sour_semantics.specs.Validity.{MayStart}

@@ -15,7 +15,8 @@ use Rattle.sour_syntax.specs.Limits.{IsShortInstr}
 use Rattle.sour_syntax.specs.Program.{ProgramView, NamesDiffer, HasLiterals, BeginsPlain}
 use Rattle.sour_syntax.specs.Scopes.{Scope, HasScope}
 use Rattle.sour_syntax.specs.Targets.{text_body, made_body, HasExits}
-use Rattle.sour_semantics.specs.Step.{BundleView, is_anchor}
+use Rattle.sour_semantics.specs.State.{BundleView}
+use Rattle.sour_semantics.specs.Step.{is_anchor}
 
 -- an operator that never traps and says whether two values are the same
 abbrev pub IsEquality : Op → Type 0
@@ -34,12 +35,12 @@ IsEquality op.And = ⊥
 IsEquality op.Or = ⊥
 
 -- an expression that compares two operands
-abbrev pub IsComparison : Expr → Type 0
-IsComparison (expr.Plain a) = ⊥
-IsComparison (expr.Cell x index) = ⊥
-IsComparison (expr.Length a) = ⊥
-IsComparison (expr.Not a) = ⊥
-IsComparison (expr.Binary operator a b) = IsEquality operator
+abbrev pub IsEqualityTest : Expr → Type 0
+IsEqualityTest (expr.Plain a) = ⊥
+IsEqualityTest (expr.Cell x index) = ⊥
+IsEqualityTest (expr.Length a) = ⊥
+IsEqualityTest (expr.Not a) = ⊥
+IsEqualityTest (expr.Binary operator a b) = IsEquality operator
 
 -- an expression that is an operand
 abbrev pub IsOperand : Expr → Type 0
@@ -64,24 +65,24 @@ IsAnchorInstr (Goto a) = ⊥
 IsAnchorInstr (Call x callee es) = ⊥
 IsAnchorInstr (Return e) = ⊥
 IsAnchorInstr Stop = ⊥
-IsAnchorInstr (Assume es exit) = AllByRecursion IsComparison es × AllByRecursion IsOperand (exit_values exit)
+IsAnchorInstr (Assume es exit) = AllByRecursion IsEqualityTest es × AllByRecursion IsOperand (exit_values exit)
 
--- an instruction out of which inlining makes several, whose labels and variables begin with its label
-abbrev pub IsInlined : Instr → Type 0
-IsInlined (Var x e) = ⊥
-IsInlined (Drop x) = ⊥
-IsInlined (Assign x e) = ⊥
-IsInlined (ArrayLength x e) = ⊥
-IsInlined (ArrayList x es) = ⊥
-IsInlined (Store x index e) = ⊥
-IsInlined (Print e) = ⊥
-IsInlined (Read x) = ⊥
-IsInlined (Branch e a b) = ⊥
-IsInlined (Goto a) = ⊥
-IsInlined (Call x callee es) = Unit {0}
-IsInlined (Return e) = Unit {0}
-IsInlined Stop = ⊥
-IsInlined (Assume es exit) = ⊥
+-- the instruction enters a function or leaves one; inlining makes several of it, whose labels and variables begin with its label
+abbrev pub IsCallOrReturn : Instr → Type 0
+IsCallOrReturn (Var x e) = ⊥
+IsCallOrReturn (Drop x) = ⊥
+IsCallOrReturn (Assign x e) = ⊥
+IsCallOrReturn (ArrayLength x e) = ⊥
+IsCallOrReturn (ArrayList x es) = ⊥
+IsCallOrReturn (Store x index e) = ⊥
+IsCallOrReturn (Print e) = ⊥
+IsCallOrReturn (Read x) = ⊥
+IsCallOrReturn (Branch e a b) = ⊥
+IsCallOrReturn (Goto a) = ⊥
+IsCallOrReturn (Call x callee es) = Unit {0}
+IsCallOrReturn (Return e) = Unit {0}
+IsCallOrReturn Stop = ⊥
+IsCallOrReturn (Assume es exit) = ⊥
 
 -- a label without the `@` at its front, if it has one
 abbrev pub without_at : List ℕ → List ℕ
@@ -94,7 +95,7 @@ BeginsWith front name = (rest : List ℕ) × (name ≡ front ++ rest)
 
 -- a line of a made body has a label by its kind
 pub record HasMadeLabel (line : Line) : Type 0 where
-  pub plain : BeginsPlain (without_at line.label)
+  pub begins : BeginsPlain (without_at line.label)
   pub anchor : IsTrue (is_anchor line.label) → IsAnchorInstr line.instr
 
 -- neither a label nor a variable of the body begins with this label and `/`
@@ -102,9 +103,9 @@ pub record IsFreeFor (body : BodyView) (label : List ℕ) : Type 0 where
   pub labels : AllByRecursion (λ line. ¬ BeginsWith (label ++ 47 ∷ []) (without_at line.label)) body.lines
   pub variables : AllByRecursion (λ name. ¬ BeginsWith (label ++ 47 ∷ []) name) body.variables
 
--- some path leads to the label
-abbrev pub IsReached : BodyView → List ℕ → Type 0
-IsReached body label = (count : ℕ) × (scope : Scope) × HasScope body count label scope
+-- the label has a scope: some path leads to it
+abbrev pub HasSomeScope : BodyView → List ℕ → Type 0
+HasSomeScope body label = (count : ℕ) × (scope : Scope) × HasScope body count label scope
 
 -- the body takes the parameters of the function of which it is one
 pub record TakesParameters (program : ProgramView) (body : BodyView) : Type 0 where
@@ -120,9 +121,9 @@ pub record IsMadeBody (program : ProgramView) (earlier : List BodyView) (body : 
   pub differ : NamesDiffer body.variables
   pub literals : HasLiterals (length program.functions) body.lines
   -- each line has a scope
-  pub reached : AllByRecursion (λ line. IsReached body line.label) body.lines
+  pub scoped : AllByRecursion (λ line. HasSomeScope body line.label) body.lines
   pub labels : AllByRecursion HasMadeLabel body.lines
-  pub free : AllByRecursion (λ line. IsInlined line.instr → IsFreeFor body line.label) body.lines
+  pub free : AllByRecursion (λ line. IsCallOrReturn line.instr → IsFreeFor body line.label) body.lines
   -- an exit leads to an earlier body or to a version of the text
   pub exits : HasExits program.functions earlier body
   pub lines : length body.lines ≤ 4096

@@ -20,6 +20,11 @@ pub data FrameCode : Type 0 where
   -- a body of a bundle that optimisation made, by its number, counted from 1; the bundle is held by its bodies
   made : (bodies : List BodyView) (number : ℕ) → FrameCode
 
+-- what is published for a function: bodies, of which a call enters the last
+pub record BundleView : Type 0 where
+  pub function : FunId
+  pub bodies : List BodyView
+
 -- an activation of a body
 pub record Frame : Type 0 where
   pub code : FrameCode

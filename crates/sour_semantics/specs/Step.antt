@@ -20,14 +20,9 @@ use Rattle.sour_syntax.specs.Exits.{Continuation, continuations, bound_names, bo
 use Rattle.sour_syntax.specs.Labels.{from_label, first_label}
 use Rattle.sour_syntax.specs.Program.{ProgramView}
 use Rattle.sour_syntax.specs.Targets.{text_body, made_body}
-use Rattle.sour_semantics.specs.State.{Environment, Heap, Frame, FrameCode, text, made, Ending, stopped, returned, trapped, stuck, State}
+use Rattle.sour_semantics.specs.State.{Environment, Heap, Frame, FrameCode, text, made, Ending, stopped, returned, trapped, stuck, State, BundleView}
 use Rattle.sour_semantics.specs.Evaluation.{number_in, truth_in, function_in, operand, eval, eval_each, in_front, holds_each}
 use Rattle.sour_semantics.specs.Text.{value_text}
-
--- what is published for a function: bodies, of which a call enters the last
-pub record BundleView : Type 0 where
-  pub function : FunId
-  pub bodies : List BodyView
 
 -- what a call of a function may enter
 pub data Entry : Type 0 where

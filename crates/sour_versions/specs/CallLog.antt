@@ -2,7 +2,8 @@
 use Rattle.std.specs.Prelude.{◌≡◌, ◌&&◌, ℕ, zero, suc, List, [], ◌∷◌, nat_eq, nat_le, if◌then◌else◌}
 use Rattle.sour_syntax.specs.declared.literal.FunId.{FunId}
 use Rattle.sour_syntax.specs.Program.{ProgramView}
-use Rattle.sour_semantics.specs.Step.{Entry, text_version, bundle, BundleView}
+use Rattle.sour_semantics.specs.State.{BundleView}
+use Rattle.sour_semantics.specs.Step.{Entry, text_version, bundle}
 use Rattle.sour_semantics.specs.Agreement.{IsLawful}
 use Rattle.sour_versions.specs.History.{Answers}
 

@@ -4,7 +4,8 @@ use Rattle.std.specs.Prelude.{slice_get, nat_eq, if◌then◌else◌}
 use Rattle.std.specs.List.{AllByRecursion}
 use Rattle.sour_syntax.specs.declared.literal.FunId.{FunId}
 use Rattle.sour_syntax.specs.Program.{ProgramView}
-use Rattle.sour_semantics.specs.Step.{Entry, text_version, bundle, BundleView}
+use Rattle.sour_semantics.specs.State.{BundleView}
+use Rattle.sour_semantics.specs.Step.{Entry, text_version, bundle}
 use Rattle.sour_semantics.specs.Agreement.{IsLawful}
 
 -- what one entry of a history says

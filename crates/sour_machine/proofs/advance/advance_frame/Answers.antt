@@ -5,7 +5,7 @@ use Rattle.sour_syntax.specs.Program.{ProgramView}
 use Rattle.sour_machine.specs.contracts.advance.Pause.{the_type}
 use Rattle.sour_machine.specs.declared.advance.Pause.TheVariants.{Crossing}
 use Rattle.sour_machine.specs.declared.moment.Moment.{Moment}
-use Rattle.sour_machine.proofs.Advances.{plain-at, IsReady-line, IsNamed-line, Lands-line, WantsMemory-line}
+use Rattle.sour_machine.proofs.Advances.{no_anchor-at, IsReady-line, IsNamed-line, Lands-line, WantsMemory-line}
 use Rattle.sour_machine.proofs.CallLaws.{Crossed, Crossed-line, Stands-crossed, GoesOn-crossed, ReadsCrossing, ReadsCrossing-lines, turns-crossing}
 use Rattle.sour_machine.proofs.FrameLaws.{HasPlaces-standing}
 use Rattle.sour_machine.proofs.RunLaws.{OnErr-any}
@@ -44,10 +44,10 @@ cross-requires-clause-stands c =
     let read = reads (goal.at.cross-requires-clause-stands c).After-lines c.index-lines-moment.result in
     record { line = get_or c.lines.result.now c.advance_in_frame.new.moment.frame.place c.index-lines-moment.result; found = read.at.found; is = refl }
 
-pub cross-requires-clause-plain : goal.cross-requires-clause-plain
-cross-requires-clause-plain c =
-    let read = reads (goal.at.cross-requires-clause-plain c).After-lines c.index-lines-moment.result in
-    plain-at c.args.program.now c.advance_in_frame.new.moment _ read.at
+pub cross-requires-clause-no_anchor : goal.cross-requires-clause-no_anchor
+cross-requires-clause-no_anchor c =
+    let read = reads (goal.at.cross-requires-clause-no_anchor c).After-lines c.index-lines-moment.result in
+    no_anchor-at c.args.program.now c.advance_in_frame.new.moment _ read.at
 
 pub cross-requires-clause-named : goal.cross-requires-clause-named
 cross-requires-clause-named c =
