@@ -10,7 +10,10 @@ use Rattle.sour_syntax.specs.BodyView.{BodyView}
 use Rattle.sour_syntax.specs.Labels.{from_label, first_label}
 use Rattle.sour_syntax.specs.Scopes.{Scope, following_labels, scope_after, first_scope, IsLineAt}
 use Rattle.sour_syntax.specs.Scopes.{HasScope, IsFine, HasScopes}
-use Rattle.sour_syntax.specs.Spread.{Rows}
+
+-- for each line its scope, or nothing where no path leads there
+abbrev pub Rows : Type 0
+Rows = List (Option Scope)
 
 -- what a list that has an entry for each line tells of a label: its scope, or that no path leads there
 abbrev pub row_of : List Line → Rows → List ℕ → Option Scope

@@ -6,7 +6,7 @@ use Rattle.laws_printing.specs.Text.{bytes_of, text_of}
 use Rattle.laws_printing.specs.Laws.{BytesAreJoined}
 
 -- the bytes of pieces
-joined_bytes : (first second : List Piece) → bytes_of (first ++ second) ≡ bytes_of first ++ bytes_of second
+pub joined_bytes : (first second : List Piece) → bytes_of (first ++ second) ≡ bytes_of first ++ bytes_of second
 joined_bytes [] second = refl
 joined_bytes (Blank ∷ first) second = ap (λ (bytes : List ℕ). 32 ∷ bytes) (joined_bytes first second)
 joined_bytes (Token lexeme ∷ first) second =
@@ -14,7 +14,7 @@ joined_bytes (Token lexeme ∷ first) second =
     ∙ sym (append_assoc (spelling lexeme) (bytes_of first) (bytes_of second))
 
 -- the bytes of lines
-joined_text : (first second : List (List Piece)) → text_of (first ++ second) ≡ text_of first ++ text_of second
+pub joined_text : (first second : List (List Piece)) → text_of (first ++ second) ≡ text_of first ++ text_of second
 joined_text [] second = refl
 joined_text (pieces ∷ first) second =
     ap (λ (bytes : List ℕ). bytes_of pieces ++ 10 ∷ bytes) (joined_text first second)

@@ -11,3 +11,11 @@ pub mod SpelledJobs
 pub mod ReadsAsItself
 pub mod Examples
 pub mod Joined
+pub mod ProgramParts
+pub mod KnownParts
+pub mod NumbersBack
+pub mod VariablesBack
+pub mod ProgramsChecked
+pub mod ProgramsWritten
+pub mod ProgramsShort
+pub mod ProgramsRead

@@ -1,11 +1,11 @@
 -- The words and digits of a raw job that is written are spelled as their kinds.
-use Rattle.std.proofs.Common.{◌≡◌, ℕ, ◌<◌, ◌^◌, Bool, true, false, ◌&&◌, List, [], ◌∷◌, length, decimal, refl, sym, subst, inl, inr, arith}
+use Rattle.std.proofs.Common.{◌≡◌, ℕ, zero, suc, ◌<◌, ◌^◌, Bool, true, false, ◌&&◌, List, [], ◌∷◌, length, get_or, decimal, refl, sym, ap, subst, inl, inr, arith}
 use Rattle.std.specs.List.{AllPass, list_all}
 use Rattle.std.specs.Char.{is_ascii_digit}
 use Rattle.std.specs.Str.Parse.{AllDigits}
 use Rattle.std.proofs.lemmas.Bool.{and_parts}
 use Rattle.std.proofs.lemmas.Bool.Decides.{nat_tests}
-use Rattle.std.proofs.lemmas.Fmt.{decimal_is_IsNumeral}
+use Rattle.std.proofs.lemmas.Fmt.{decimal_is_IsNumeral, decimal_digit, first_decimal}
 use Rattle.std.proofs.lemmas.List.Elements.{All-nil, All-cons, All-weaker}
 use Rattle.std.proofs.lemmas.List.Sums.{AllPass-from_list_all}
 use Rattle.std.proofs.lemmas.Str.Parse.{digit_at}
@@ -62,3 +62,18 @@ some_digits (d ∷ digits) some all =
 -- a number below 2 ^ 64 in decimal is digits
 pub decimal_spelled : (n : ℕ) → n < 2 ^ 64 → IsDigits (decimal n)
 decimal_spelled n small = let a = (decimal_is_IsNumeral n small).0 in some_digits (decimal n) a.0 a.1
+
+-- digits of which the first isn't 0, or there is one alone, are a decimal number
+decimal_number : (digits : List ℕ) → IsDigits digits → (1 < length digits → 48 < get_or digits 0 0) → IsDecimal digits
+decimal_number [] is first = absurd is
+decimal_number (d ∷ []) is first = is
+decimal_number (d ∷ e ∷ digits) is first =
+    let more : 48 < d = first (omega arith) in ((λ zero. omega arith), is)
+
+-- what a number is written as in decimal is a decimal number
+pub decimal_is : (n : ℕ) → n < 2 ^ 64 → IsDecimal (decimal n)
+decimal_is zero small =
+    decimal_number (decimal 0) (decimal_spelled 0 small)
+    (λ more. absurd (omega (arith, more, ap length (decimal_digit 0 (omega arith)))))
+decimal_is (suc n) small =
+    decimal_number (decimal (suc n)) (decimal_spelled (suc n) small) (λ more. first_decimal (suc n) (omega arith) small)

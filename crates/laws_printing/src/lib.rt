@@ -1,10 +1,10 @@
-//! Laws about the canonical text of functions. Each is the contract of a function that does nothing;
-//! the proofs go by the definitions of `sour_lexer` and `sour_raw`, and by the pieces that this crate
-//! defines.
+//! Laws about the canonical text of functions, and of a program. Each is the contract of a function
+//! that does nothing; the proofs go by the definitions of `sour_lexer`, `sour_raw` and
+//! `sour_checked`, and by the pieces that this crate defines.
 #![tactic(auto)]
 
 ghost use Rattle.laws_printing.specs.Examples.{AreSpelledSo, IsTextSpelledSo};
-ghost use Rattle.laws_printing.specs.Laws.{BytesAreJoined, PiecesAreTokens, PiecesAreApart, PiecesSpell, ReadsAsItself};
+ghost use Rattle.laws_printing.specs.Laws.{BytesAreJoined, PiecesAreTokens, PiecesAreApart, PiecesSpell, ReadsAsItself, ProgramsAreWritten, ProgramsAreShort, ProgramsAreCanonical, ProgramsAreRead, ProgramsAreChecked};
 
 /// The bytes of pieces are those of their parts, one after the other, and so are those of lines.
 pub fn bytes_are_joined()
@@ -32,6 +32,31 @@ pub fn pieces_spell()
 /// within the limits, has functions alone, and has the line numbers of that text.
 pub fn reads_as_itself()
     ensures { ReadsAsItself }
+{}
+
+/// A program with names in place of numbers is written as a text must be.
+pub fn programs_are_written()
+    ensures { ProgramsAreWritten }
+{}
+
+/// It is within the limits.
+pub fn programs_are_short()
+    ensures { ProgramsAreShort }
+{}
+
+/// It has functions alone, and the line numbers of the canonical text.
+pub fn programs_are_canonical()
+    ensures { ProgramsAreCanonical }
+{}
+
+/// So the canonical text of a program reads as the program with names in place of numbers.
+pub fn programs_are_read()
+    ensures { ProgramsAreRead }
+{}
+
+/// And that is accepted as this very program, without a plan and without inputs.
+pub fn programs_are_checked()
+    ensures { ProgramsAreChecked }
 {}
 
 /// The blanks of the canonical text stand where the examples have them.

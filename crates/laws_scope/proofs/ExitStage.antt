@@ -7,6 +7,7 @@ use Rattle.sour_syntax.specs.declared.instruction.Instr.{Instr}
 use Rattle.sour_syntax.specs.declared.instruction.Line.{Line}
 use Rattle.sour_syntax.specs.declared.program.Version.{Version}
 use Rattle.sour_syntax.specs.declared.program.Function.{Function}
+use Rattle.sour_syntax.specs.Body.{IsWellFormed}
 use Rattle.sour_syntax.specs.Exits.{Continuation, continuations_of}
 use Rattle.sour_syntax.specs.Labels.{labels_of, label_at}
 use Rattle.sour_syntax.specs.Scopes.{Scope, HasScope, IsLineAt, HasScopes}
@@ -17,22 +18,24 @@ use Rattle.sour_syntax.proofs.LabelPlaces.{from_label-first_label-drop, drop-sli
 use Rattle.sour_raw.specs.declared.raw.RawLine.{RawLine}
 use Rattle.sour_raw.specs.declared.raw.RawVersion.{RawVersion}
 use Rattle.sour_raw.specs.declared.raw.RawFunction.{RawFunction}
-use Rattle.sour_scope.specs.Outline.{outline}
-use Rattle.sour_scope.specs.Numbered.{label_of, instr_of, lines_of, version_of, functions_of}
-use Rattle.sour_scope.specs.Checked.{HaveExits}
-use Rattle.laws_scope.specs.Fault.{first_fault_of}
-use Rattle.laws_scope.specs.Texts.{TextVersion, text_version, text_versions, function_names, version_names, number_in, version_in, version_at, variables, body}
-use Rattle.laws_scope.specs.Parts.{Leave, leaves}
-use Rattle.laws_scope.specs.Names.{repeated_on, unknown_target, leave_broken}
-use Rattle.laws_scope.specs.Taking.{Place, place_scope}
-use Rattle.laws_scope.specs.Landing.{places, leave_fault, reached_fault, lines_fault, landing_fault}
+use Rattle.sour_checked.specs.Outline.{outline}
+use Rattle.sour_checked.specs.Numbered.{label_of, instr_of, lines_of, version_of, functions_of}
+use Rattle.sour_checked.specs.Checked.{HaveExits}
+use Rattle.sour_checked.specs.Fault.{first_fault_of}
+use Rattle.sour_checked.specs.Texts.{TextVersion, text_version, text_versions, function_names, version_names, number_in, version_in, version_at, variables, body}
+use Rattle.sour_checked.specs.Parts.{Leave, leaves}
+use Rattle.sour_checked.specs.Names.{repeated_on, unknown_target, leave_broken}
+use Rattle.sour_syntax.specs.declared.place_state.PlaceState.{PlaceState}
+use Rattle.sour_syntax.specs.Taking.{place_scope}
+use Rattle.sour_checked.specs.Landing.{places, leave_fault, reached_fault, lines_fault, landing_fault}
 use Rattle.laws_scope.specs.Right.{HasNames}
 use Rattle.laws_scope.specs.Laws.{ExitsExactly}
 use Rattle.laws_scope.proofs.Kit.{iff_then, iff_both, iff_given, iff_map, iff_append, none_both, none_each}
 use Rattle.laws_scope.proofs.VersionRules.{labels_are}
 use Rattle.laws_scope.proofs.TargetRules.{numbered, IsMade, leave_rule, leaves_rule, of_leaves}
-use Rattle.laws_scope.proofs.LabelLaws.{from_place}
+use Rattle.sour_syntax.proofs.FirstPlaces.{from_label-drop}
 use Rattle.laws_scope.proofs.NameStage.{names_exactly}
+use Rattle.laws_scope.proofs.WellFormed.{all_well_formed}
 use Rattle.laws_scope.proofs.ScopeStage.{neither, no_first_fault}
 use Rattle.laws_scope.proofs.LandRules.{IsScoped, scoped, land_rule}
 
@@ -120,24 +123,25 @@ written_at functions names number (suc place) (first ∷ lines) line at = writte
     lines line at
 
 -- the first line and the others have none
-each_line : (functions : List RawFunction) (first : Place) (line : RawLine) (some : List Place) (lines : List RawLine)
+each_line : (functions : List RawFunction) (first : PlaceState) (line : RawLine) (some : List PlaceState)
+    (lines : List RawLine)
     → reached_fault functions line (place_scope (Some first)) ≡ None
-    → ((index : ℕ) (place : Place) (other : RawLine) → slice_get some index ≡ Some place
+    → ((index : ℕ) (place : PlaceState) (other : RawLine) → slice_get some index ≡ Some place
     → slice_get lines index ≡ Some other → reached_fault functions other (place_scope (Some place)) ≡ None)
-    → (index : ℕ) (place : Place) (other : RawLine) → slice_get (first ∷ some) index ≡ Some place
+    → (index : ℕ) (place : PlaceState) (other : RawLine) → slice_get (first ∷ some) index ≡ Some place
     → slice_get (line ∷ lines) index ≡ Some other
     → reached_fault functions other (place_scope (Some place)) ≡ None
 each_line functions first line some lines here rest zero place other at there =
     let same : first ≡ place = cc in
     let one : line ≡ other = cc in
     ap (λ (l : RawLine). reached_fault functions l (place_scope (Some place))) (sym one)
-    ∙ ap (λ (p : Place). reached_fault functions line (place_scope (Some p))) (sym same) ∙ here
+    ∙ ap (λ (p : PlaceState). reached_fault functions line (place_scope (Some p))) (sym same) ∙ here
 each_line functions first line some lines here rest (suc index) place other at there = rest index place other at there
 
 -- no line has a fault
-lines_none : (functions : List RawFunction) (some : List Place) (lines : List RawLine)
+lines_none : (functions : List RawFunction) (some : List PlaceState) (lines : List RawLine)
     → (lines_fault functions some lines ≡ None)
-    ↔ ((index : ℕ) (place : Place) (line : RawLine) → slice_get some index ≡ Some place
+    ↔ ((index : ℕ) (place : PlaceState) (line : RawLine) → slice_get some index ≡ Some place
     → slice_get lines index ≡ Some line → reached_fault functions line (place_scope (Some place)) ≡ None)
 lines_none functions [] lines = ((λ is index place line at there. absurd (cc)), λ all. refl)
 lines_none functions (place ∷ some) [] = ((λ is index other line at there. absurd (cc)), λ all. refl)
@@ -149,7 +153,7 @@ lines_none functions (place ∷ some) (line ∷ lines) =
     )
 
 -- a place that has a scope
-place_found : (found : Option Place) (scope : Scope) → place_scope found ≡ Some scope → (place : Place)
+place_found : (found : Option PlaceState) (scope : Scope) → place_scope found ≡ Some scope → (place : PlaceState)
     × (found ≡ Some place) × (place_scope (Some place) ≡ Some scope)
 place_found None scope is = absurd (cc)
 place_found (Some place) scope is = (place, refl, is)
@@ -251,7 +255,7 @@ module _ (functions : List RawFunction) (good : AllByRecursion (IsGood functions
     lands_at none count label scope line rest path stands =
         let lines = (body functions text).lines in
         let place = number_in (labels_of lines) label in
-        let at = (drop_first lines rest place line (sym (from_place label lines) ∙ stands.stands)).0 in
+        let at = (drop_first lines rest place line (sym (from_label-drop label lines) ∙ stands.stands)).0 in
         let own_labels = labels_are functions (variables text) 0 text.version.lines in
         let has = ap (λ all. place_scope (slice_get (places functions text) (number_in all label))) own_labels
         ∙ own.scoped.has count label scope path in
@@ -288,21 +292,20 @@ exits_each functions all number (function ∷ some) =
     (iff_both (iff_then texts (made.1, made.0)) (exits_each functions all (suc number) some))
 
 -- names and scopes are right
-all_good : (functions : List RawFunction) (texts : List TextVersion) → AllByRecursion (HasNames functions) texts
-    → AllByRecursion (λ text. HasScopes (body functions text)) texts
-    → AllByRecursion (IsGood functions) texts
-all_good functions [] names scopes = tt
-all_good functions (text ∷ texts) names scopes = (
-  record
-      { names = names.0; scoped = scoped functions text names.0 scopes.0 },
-  all_good functions texts names.1 scopes.1,
+all_good : (functions : List RawFunction) (texts : List TextVersion)
+    → AllByRecursion (λ text. IsWellFormed (body functions text)) texts → AllByRecursion (HasNames functions) texts
+    → AllByRecursion (λ text. HasScopes (body functions text)) texts → AllByRecursion (IsGood functions) texts
+all_good functions [] forms names scopes = tt
+all_good functions (text ∷ texts) forms names scopes = (
+  record { names = names.0; scoped = scoped functions text forms.0 scopes.0 },
+  all_good functions texts forms.1 names.1 scopes.1,
 )
 
 -- where names and scopes are right, the third stage finds nothing exactly where exits are right
 pub exits_exactly : ExitsExactly
 exits_exactly raw written none scopes =
-    let good = all_good raw.functions (text_versions 0 raw.functions) ((names_exactly raw written).0 none).versions
-    scopes in
+    let good = all_good raw.functions (text_versions 0 raw.functions) (all_well_formed raw written none)
+    ((names_exactly raw written).0 none).versions scopes in
     iff_then (no_first_fault (landing_fault raw.functions) (text_versions 0 raw.functions))
     (iff_then (iff_given (IsGood raw.functions) (λ text. landing_fault raw.functions text ≡ None)
     (λ text. HasExits (numbered raw.functions) [] (body raw.functions text))

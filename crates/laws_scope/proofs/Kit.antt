@@ -1,17 +1,27 @@
 -- When no rule is broken: of lists that are joined, and of tests.
-use Rattle.std.proofs.Common.{◌≡◌, ◌≢◌, ◌↔◌, ◌+◌, ◌<◌, ℕ, suc, Bool, true, false, not, cond, ◌||◌, List, [], ◌∷◌, ◌++◌, Some, Contains, length, map, refl, sym, ap, ◌∙◌, subst, arith}
-use Rattle.std.specs.List.{AllByRecursion, flat_map, slice_get}
+use Rattle.std.proofs.Common.{◌≡◌, ◌≢◌, ◌↔◌, ◌+◌, ◌<◌, ℕ, suc, Bool, true, false, not, cond, ◌||◌, List, [], ◌∷◌, ◌++◌, Some, Contains, length, map, refl, sym, ap, subst, arith}
+use Rattle.std.specs.List.{AllByRecursion, AllZip, flat_map, slice_get}
 use Rattle.std.specs.Str.{bytes_eq}
+use Rattle.std.proofs.lemmas.Bool.{or_parts, or_from}
+use Rattle.std.proofs.lemmas.Map.Views.{Contains-from_any}
 use Rattle.std.proofs.lemmas.Slice.Eq.{bytes_eq-Decides}
 use Rattle.sour_syntax.specs.Program.{NamesDiffer}
-use Rattle.sour_syntax.proofs.Everywhere.{Contains-slice_get}
-use Rattle.laws_scope.specs.Texts.{number_in}
-use Rattle.laws_scope.specs.Names.{broken_if, is_among, repeated, repeated_on, unknown_on, unknown_each}
-use Rattle.laws_scope.proofs.OnceLaws.{of_each}
+use Rattle.sour_syntax.proofs.Everywhere.{AllByRecursion-contains}
+use Rattle.sour_syntax.proofs.FirstPlaces.{first_place-slice_get}
+use Rattle.sour_checked.specs.Texts.{number_in}
+use Rattle.sour_checked.specs.Names.{broken_if, is_among, repeated, repeated_on, unknown_on, unknown_each}
 
 -- one after the other
 pub iff_then : {A B C : Type 0} → (A ↔ B) → (B ↔ C) → A ↔ C
 iff_then one other = ((λ a. other.0 (one.0 a)), λ c. one.1 (other.1 c))
+
+-- the other way round
+pub iff_back : {A B : Type 0} → (A ↔ B) → B ↔ A
+iff_back same = (same.1, same.0)
+
+-- itself
+pub iff_same : {A : Type 0} → A ↔ A
+iff_same = ((λ is. is), λ is. is)
 
 -- side by side
 pub iff_both : {A B C D : Type 0} → (A ↔ C) → (B ↔ D) → (A × B) ↔ (C × D)
@@ -30,8 +40,7 @@ pub iff_each : {X : Type 0} (P Q : X → Type 0) → ((x : X) → P x ↔ Q x) �
     ↔ AllByRecursion Q xs
 iff_each P Q same [] = ((λ all. tt), λ all. tt)
 iff_each P Q same (x ∷ xs) =
-    let rest = iff_each P Q same xs in
-    ((λ all. ((same x).0 all.0, rest.0 all.1)), λ all. ((same x).1 all.0, rest.1 all.1))
+    iff_both (same x) (iff_each P Q same xs)
 
 -- of each of which something else holds
 pub iff_given : {X : Type 0} (W P Q : X → Type 0) → ((x : X) → W x → P x ↔ Q x) → (xs : List X) → AllByRecursion W xs
@@ -39,11 +48,20 @@ pub iff_given : {X : Type 0} (W P Q : X → Type 0) → ((x : X) → W x → P x
 iff_given W P Q same [] given = ((λ all. tt), λ all. tt)
 iff_given W P Q same (x ∷ xs) given = iff_both (same x given.0) (iff_given W P Q same xs given.1)
 
+-- of two lists side by side, of whose elements something holds
+pub iff_zip : {X Y : Type 0} (P : X → Type 0) (Q : Y → Type 0) (R : X → Y → Type 0)
+    → ((x : X) (y : Y) → R x y → P x ↔ Q y) → (xs : List X) (ys : List Y) → AllZip R xs ys
+    → AllByRecursion P xs ↔ AllByRecursion Q ys
+iff_zip P Q R same [] [] each = ((λ all. tt), λ all. tt)
+iff_zip P Q R same [] (y ∷ ys) each = absurd each
+iff_zip P Q R same (x ∷ xs) [] each = absurd each
+iff_zip P Q R same (x ∷ xs) (y ∷ ys) each = iff_both (same x y each.0) (iff_zip P Q R same xs ys each.1)
+
 -- of what is made of each
 pub iff_map : {X Y : Type 0} (P : Y → Type 0) (f : X → Y) (xs : List X) → AllByRecursion P (map f xs)
     ↔ AllByRecursion (λ x. P (f x)) xs
 iff_map P f [] = ((λ all. tt), λ all. tt)
-iff_map P f (x ∷ xs) = let rest = iff_map P f xs in ((λ all. (all.0, rest.0 all.1)), λ all. (all.0, rest.1 all.1))
+iff_map P f (x ∷ xs) = iff_both iff_same (iff_map P f xs)
 
 -- of two lists one after the other
 pub iff_append : {X : Type 0} (P : X → Type 0) (xs ys : List X) → AllByRecursion P (xs ++ ys)
@@ -70,7 +88,7 @@ none_three xs ys zs =
 -- and many where each is
 pub none_each : {X Y : Type 0} (f : X → List Y) (xs : List X) → (flat_map f xs ≡ []) ↔ AllByRecursion (λ x. f x ≡ []) xs
 none_each f [] = ((λ is. tt), λ all. refl)
-none_each f (x ∷ xs) = iff_then (none_both (f x) (flat_map f xs)) (iff_both ((λ is. is), λ is. is) (none_each f xs))
+none_each f (x ∷ xs) = iff_then (none_both (f x) (flat_map f xs)) (iff_both iff_same (none_each f xs))
 
 -- a rule isn't broken where the test fails
 pub none_if : (test : Bool) (kind line : ℕ) → (broken_if test kind line ≡ []) ↔ (test ≡ false)
@@ -83,9 +101,8 @@ none_if_not true kind line = ((λ is. refl), λ is. refl)
 none_if_not false kind line = ((λ is. absurd (cc)), λ is. absurd (cc))
 
 -- neither of two tests holds
-or_parts : (a b : Bool) → ((a || b) ≡ false) ↔ ((a ≡ false) × (b ≡ false))
-or_parts true b = ((λ is. absurd (cc)), λ both. let first = both.0 in absurd (cc))
-or_parts false b = ((λ is. (refl, is)), λ both. both.1)
+neither_test : (a b : Bool) → ((a || b) ≡ false) ↔ ((a ≡ false) × (b ≡ false))
+neither_test a b = (or_parts a b, λ both. or_from a b both.0 both.1)
 
 -- a test fails where what it decides isn't so
 fails_if : (A : Type 0) (test : Bool) → (test ≡ true → A) → (A → test ≡ true) → (test ≡ false) ↔ (A → ⊥)
@@ -100,10 +117,10 @@ among_not (first ∷ names) name =
     let here : (bytes_eq name first ≡ false) ↔ (first ≢ name) =
     fails_if (first ≡ name) (bytes_eq name first) (λ is. sym ((bytes_eq-Decides name first).0 is))
     (λ same. (bytes_eq-Decides name first).1 (sym same)) in
-    iff_then (or_parts (bytes_eq name first) (is_among names name)) (iff_both here (among_not names name))
+    iff_then (neither_test (bytes_eq name first) (is_among names name)) (iff_both here (among_not names name))
 
 -- a name that is among others has a number below their count
-among_step : (test any : Bool) (place count : ℕ) → (any ≡ true) ↔ (place < count) → ((test || any) ≡ true)
+pub among_step : (test any : Bool) (place count : ℕ) → (any ≡ true) ↔ (place < count) → ((test || any) ≡ true)
     ↔ (cond (not test) (1 + place) 0 < suc count)
 among_step true any place count rest = ((λ is. omega arith), λ is. refl)
 among_step false any place count rest = ((λ is. let below = rest.0 is in omega arith), λ is. rest.1 (omega arith))
@@ -114,34 +131,24 @@ among_number [] name = ((λ is. absurd (cc)), λ is. absurd (omega arith))
 among_number (first ∷ names) name = among_step (bytes_eq name first) (is_among names name) (number_in names name)
     (length names) (among_number names name)
 
--- and stands at that number
-number_step : (first name : List ℕ) (names : List (List ℕ)) (test : Bool) (place : ℕ) → bytes_eq name first ≡ test
-    → (place < length names → slice_get names place ≡ Some name)
-    → cond (not test) (1 + place) 0 < suc (length names)
-    → slice_get (first ∷ names) (cond (not test) (1 + place) 0) ≡ Some name
-number_step first name names true place is rest within = ap Some (sym ((bytes_eq-Decides name first).0 is))
-number_step first name names false place is rest within =
-    let next : 1 + place ≡ suc place = omega arith in ap (λ n. slice_get (first ∷ names) n) next ∙ rest (omega arith)
-
-pub number_found : (names : List (List ℕ)) (name : List ℕ) → number_in names name < length names
-    → slice_get names (number_in names name) ≡ Some name
-number_found [] name within = absurd (omega arith)
-number_found (first ∷ names) name within = number_step first name names (bytes_eq name first) (number_in names name)
-    refl (number_found names name) within
-
--- a name is among others or isn't
+-- a name is one of others where it is among them
 among_or : (names : List (List ℕ)) (name : List ℕ) (test : Bool) → is_among names name ≡ test → Contains names name
     → test ≡ true
 among_or names name true is has = refl
-among_or names name false is has = absurd (of_each (λ other. other ≢ name) names name has ((among_not names name).0 is)
-    refl)
+among_or names name false is has = absurd
+    (AllByRecursion-contains (λ other. other ≢ name) names name has ((among_not names name).0 is) refl)
 
 pub among_contains : (names : List (List ℕ)) (name : List ℕ) → (is_among names name ≡ true) ↔ Contains names name
 among_contains names name = (
-  (λ is. Contains-slice_get names (number_in names name) name
-      (number_found names name ((among_number names name).0 is))),
+  Contains-from_any (λ one other. (bytes_eq-Decides one other).0) name names,
   λ has. among_or names name _ refl has,
 )
+
+-- and then it stands at its number
+pub number_found : (names : List (List ℕ)) (name : List ℕ) → number_in names name < length names
+    → slice_get names (number_in names name) ≡ Some name
+number_found names name within =
+    first_place-slice_get names name ((among_contains names name).0 ((among_number names name).1 within))
 
 -- none of these is among those before
 abbrev pub AreNew : {X : Type 0} → (X → List ℕ) → List (List ℕ) → List X → Type 0
@@ -155,8 +162,8 @@ new_more named name before (x ∷ xs) =
     let test : (bytes_eq (named x) name ≡ false) ↔ (named x ≢ name) =
     fails_if (named x ≡ name) (bytes_eq (named x) name) (bytes_eq-Decides (named x) name).0
     (bytes_eq-Decides (named x) name).1 in
-    let here = iff_then (or_parts (bytes_eq (named x) name) (is_among before (named x)))
-    (iff_both test ((λ is. is), λ is. is)) in
+    let here = iff_then (neither_test (bytes_eq (named x) name) (is_among before (named x)))
+    (iff_both test iff_same) in
     let rest = new_more named name before xs in (
       (λ all. (((here.0 all.0).0, (rest.0 all.1).0), ((here.0 all.0).1, (rest.0 all.1).1))),
       λ both. (here.1 (both.0.0, both.1.0), rest.1 (both.0.1, both.1.1)),

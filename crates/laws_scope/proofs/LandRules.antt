@@ -1,7 +1,9 @@
 -- What it says of a continuation that it fits its target.
-use Rattle.std.proofs.Common.{◌≡◌, ◌↔◌, ◌<◌, ℕ, Bool, true, false, ◌&&◌, List, [], Option, None, Some, Result, Ok, Err, Contains, length, refl, sym, ap, ◌∙◌, subst}
+use Rattle.std.proofs.Common.{◌≡◌, ◌↔◌, ◌<◌, ℕ, Bool, true, false, List, [], Option, None, Some, Contains, length, refl, sym, ap, ◌∙◌, subst}
 use Rattle.std.specs.Prelude.{IfSome, slice_get, slice_set, if◌then◌else◌}
+use Rattle.std.proofs.lemmas.Bool.Decides.{Decides-and}
 use Rattle.std.proofs.lemmas.Option.{slice_get_within}
+use Rattle.sour_syntax.specs.Body.{IsWellFormed}
 use Rattle.sour_syntax.specs.BodyView.{BodyView}
 use Rattle.sour_syntax.specs.Exits.{Continuation, bound_names}
 use Rattle.sour_syntax.specs.Labels.{labels_of, label_at}
@@ -9,23 +11,23 @@ use Rattle.sour_syntax.specs.Scopes.{Scope, scope_with, HasScope, HasScopes}
 use Rattle.sour_syntax.specs.Spread.{HasPath}
 use Rattle.sour_syntax.specs.Targets.{Lands, IsNamed, scope_of_names}
 use Rattle.sour_raw.specs.declared.raw.RawFunction.{RawFunction}
-use Rattle.sour_scope.proofs.VariableNames.{variables_differ}
-use Rattle.laws_scope.specs.Fault.{Fault}
-use Rattle.laws_scope.specs.Texts.{TextVersion, body, variables, labels, line_numbers, number_in, version_at}
-use Rattle.laws_scope.specs.Parts.{Leave}
-use Rattle.laws_scope.specs.Names.{is_among}
-use Rattle.laws_scope.specs.Taking.{Place, place_scope, taken, says, same_scope}
-use Rattle.laws_scope.specs.Landing.{found_places, places, scope_at, scope_without, has_result, scope_of, fits, fit_fault, target_fault, leave_fault}
+use Rattle.laws_scope.proofs.VariableNames.{variables_differ}
+use Rattle.sour_checked.specs.Fault.{Fault}
+use Rattle.sour_checked.specs.Texts.{TextVersion, body, variables, labels, number_in, version_at}
+use Rattle.sour_checked.specs.Parts.{Leave}
+use Rattle.sour_checked.specs.Names.{is_among}
+use Rattle.sour_syntax.specs.declared.place_state.PlaceState.{PlaceState}
+use Rattle.sour_syntax.specs.Taking.{place_scope, says, same_scope}
+use Rattle.sour_checked.specs.Landing.{found_places, places, scope_at, waiting, scope_of, fits, fit_fault, target_fault, leave_fault}
 use Rattle.laws_scope.specs.Right.{HasNames}
-use Rattle.laws_scope.proofs.Kit.{iff_then, iff_both, iff_each, none_if_not, known_each, among_number, among_contains}
+use Rattle.laws_scope.proofs.Kit.{iff_then, iff_each, none_if_not, known_each, among_number, among_contains}
 use Rattle.laws_scope.proofs.VersionRules.{labels_are}
-use Rattle.laws_scope.proofs.TargetRules.{numbered, waiting, IsMade, Parts, found, bound, waits, labelled, there}
-use Rattle.laws_scope.proofs.LabelLaws.{label_of_place}
-use Rattle.laws_scope.proofs.FineLaws.{both_tests, says_rule, same_rule}
-use Rattle.laws_scope.proofs.PlaceLists.{set_here}
+use Rattle.laws_scope.proofs.TargetRules.{numbered, IsMade, Parts, found, bound, waits, labelled, there}
+use Rattle.sour_syntax.proofs.FirstPlaces.{label_at-first_place}
+use Rattle.sour_syntax.proofs.PlaceLists.{set_here}
+use Rattle.sour_syntax.proofs.ScopeTests.{says-Decides, same_scope-Decides}
 use Rattle.laws_scope.proofs.MaskRules.{set_back, scope_of_numbers}
-use Rattle.laws_scope.proofs.TakingLaws.{taken_done, path_has}
-use Rattle.laws_scope.proofs.FaultyScopes.{no_fault, taken_paths}
+use Rattle.sour_syntax.proofs.TakenScopes.{HasNoBodyFault-HasScopes, taken-HasScope, HasPath-taken}
 
 -- the scopes that were found for a version are those that paths give it
 pub record IsScoped (functions : List RawFunction) (text : TextVersion) : Type 0 where
@@ -34,51 +36,37 @@ pub record IsScoped (functions : List RawFunction) (text : TextVersion) : Type 0
   pub at : (place : ℕ) (scope : Scope) → place_scope (slice_get (places functions text) place) ≡ Some scope
       → HasPath (body functions text) place scope
 
-module _ (functions : List RawFunction) (text : TextVersion) (names : HasNames functions text)
+module _ (functions : List RawFunction) (text : TextVersion) (form : IsWellFormed (body functions text))
     (scopes : HasScopes (body functions text)) where
   -- the labels of the body are those that are written
   own : labels_of (body functions text).lines ≡ labels text
   own = labels_are functions (variables text) 0 text.version.lines
 
-  -- by what the taking of places gives
-  by_result : (result : Result (List Place) Fault) → taken (body functions text) (line_numbers text) ≡ result
-      → IsScoped functions text
-  by_result (Err fault) is = absurd (no_fault (body functions text) (line_numbers text) names.labels names.end
-      names.jumps scopes fault is)
-  by_result (Ok some) is =
-      let found : places functions text ≡ some = ap found_places is in
-      let done = taken_done (body functions text) (line_numbers text) names.labels names.end names.jumps some is in
-      let have = taken_paths (body functions text) (line_numbers text) names.labels names.end names.jumps scopes some
-      is in
+  -- the scopes that places have in the end
+  pub scoped : IsScoped functions text
+  scoped =
+      let well = HasNoBodyFault-HasScopes (body functions text) form scopes in
+      let found : places functions text ≡ well.0 = ap found_places well.1 in
       record {
         has = λ count label scope path.
             ap (λ all. place_scope (slice_get (places functions text) (number_in all label))) (sym own)
-            ∙ ap (λ (ps : List Place). place_scope
+            ∙ ap (λ (ps : List PlaceState). place_scope
             (slice_get ps (number_in (labels_of (body functions text).lines) label))) found
-            ∙ path_has (body functions text) (line_numbers text) names.labels names.end names.jumps some done count
-            label scope path;
-        at = λ place scope is_at. have.paths place scope
-            (ap (λ (ps : List Place). place_scope (slice_get ps place)) (sym found) ∙ is_at);
+            ∙ taken-HasScope (body functions text) form well.0 well.1 count label scope path;
+        at = λ place scope is_at. HasPath-taken (body functions text) form well.0 well.1 place scope
+            (ap (λ (ps : List PlaceState). place_scope (slice_get ps place)) (sym found) ∙ is_at);
       }
 
-  pub scoped : IsScoped functions text
-  scoped = by_result _ refl
-
 -- a map fits a scope where that is the scope of its names with the variable that waits, which isn't one of them
-fits_by : (names : List (List ℕ)) (mask scope : Scope) (waits : Option (List ℕ))
-    → ((has_result names waits scope && same_scope mask (scope_without names waits scope)) ≡ true)
-    ↔ ((scope ≡ scope_with (waiting names waits) mask)
-    × IfSome (waiting names waits) (λ x. slice_get mask x ≡ Some false))
-fits_by names mask scope None = (
-  (λ is. (sym ((same_rule mask scope).0 is), tt)),
-  λ both. (same_rule mask scope).1
-      (sym both.0),
+fits_by : (mask scope : Scope) (waits : Option ℕ) → (fits waits mask scope ≡ true)
+    ↔ ((scope ≡ scope_with waits mask) × IfSome waits (λ x. slice_get mask x ≡ Some false))
+fits_by mask scope None = (
+  (λ is. (sym ((same_scope-Decides mask scope).0 is), tt)),
+  λ both. (same_scope-Decides mask scope).1 (sym both.0),
 )
-fits_by names mask scope (Some name) =
-    let place = number_in names name in
-    let tests = iff_then (both_tests (says true (slice_get scope place))
-    (same_scope mask (slice_set scope place false)))
-    (iff_both (says_rule true (slice_get scope place)) (same_rule mask (slice_set scope place false))) in (
+fits_by mask scope (Some place) =
+    let tests = Decides-and (says true (slice_get scope place)) (same_scope mask (slice_set scope place false))
+    (says-Decides true (slice_get scope place)) (same_scope-Decides mask (slice_set scope place false)) in (
       (λ is.
           let both = tests.0 is in
           let within = slice_get_within scope place true both.0 in (
@@ -178,7 +166,7 @@ module _ (functions : List RawFunction) (line : ℕ) (leave : Leave) (continuati
       let place_label : label_at (body functions text).lines (number_in (labels text) leave.target.label) ≡
       leave.target.label =
       ap (λ all. label_at (body functions text).lines (number_in all leave.target.label)) (sym labels_same)
-      ∙ label_of_place (body functions text).lines leave.target.label
+      ∙ label_at-first_place (body functions text).lines leave.target.label
       (subst (λ all. Contains all leave.target.label) (sym labels_same) label_is) in
       let whole_path = subst (HasScope (body functions text) path.count leave.target.label) (same ∙ whole)
       (subst (λ label. HasScope (body functions text) path.count label scope) place_label path.path) in
@@ -196,14 +184,15 @@ module _ (functions : List RawFunction) (line : ℕ) (leave : Leave) (continuati
 
   -- where it has a scope
   by_scope : (found_scope : Option Scope) → scope_at functions text leave.target.label ≡ found_scope
-      → (fit_fault line leave own_variables found_scope ≡ None) ↔ Lands (numbered functions) [] continuation
+      → (fit_fault line own_variables (waiting own_variables leave.waits) leave.names mask found_scope ≡ None)
+      ↔ Lands (numbered functions) [] continuation
   by_scope None none = (
     (λ wrong. absurd (cc)),
     λ lands. let has = lands_scope lands in absurd (cc),
   )
   by_scope (Some scope) at =
-      let test = iff_then (no_fault_if (fits own_variables leave scope) _)
-      (fits_by own_variables mask scope leave.waits) in (
+      let test = iff_then (no_fault_if (fits (waiting own_variables leave.waits) mask scope) _)
+      (fits_by mask scope (waiting own_variables leave.waits)) in (
         (λ fine. land scope at (test.0 fine)),
         λ lands.
             let has = lands_scope lands in

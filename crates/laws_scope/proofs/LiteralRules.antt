@@ -27,10 +27,10 @@ use Rattle.sour_raw.specs.declared.raw.RawPass.TheVariants.{Inject, Constprop, U
 use Rattle.sour_raw.specs.declared.raw.RawPlanJob.{RawPlanJob}
 use Rattle.sour_raw.specs.Written.{IsWrittenSide, IsWrittenPass, IsWrittenJob, IsWrittenLiteral, IsWrittenSimple, IsWrittenExpr, AreWrittenExprs, IsWrittenMap, IsWrittenExtra, IsWrittenExit, IsWrittenInstr}
 use Rattle.sour_raw.specs.declared.raw.RawFunction.{RawFunction}
-use Rattle.sour_scope.specs.Outline.{outline, own_names, place_variables}
-use Rattle.sour_scope.specs.Numbered.{side_of, pass_of, plan_job_of, literal_of, simple_of, expr_of, map_of, extra_of, exit_of, instr_of}
-use Rattle.laws_scope.specs.Parts.{side_functions, pass_functions, job_functions, literal_functions, simple_functions, expr_functions, each_functions, map_functions, exit_functions, instr_functions}
-use Rattle.laws_scope.specs.Names.{is_among}
+use Rattle.sour_checked.specs.Outline.{outline, own_names, place_variables}
+use Rattle.sour_checked.specs.Numbered.{side_of, pass_of, plan_job_of, literal_of, simple_of, expr_of, map_of, extra_of, exit_of, instr_of}
+use Rattle.sour_checked.specs.Parts.{side_functions, pass_functions, job_functions, literal_functions, simple_functions, expr_functions, each_functions, map_functions, exit_functions, instr_functions}
+use Rattle.sour_checked.specs.Names.{is_among}
 use Rattle.laws_scope.proofs.Kit.{iff_then, iff_both, iff_append, AreAmong, among_number}
 
 -- a number that fits 64 bits with its sign lies in i64

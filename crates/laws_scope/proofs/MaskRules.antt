@@ -8,10 +8,10 @@ use Rattle.sour_syntax.specs.Program.{NamesDiffer}
 use Rattle.sour_syntax.specs.Scopes.{Scope}
 use Rattle.sour_syntax.specs.Targets.{scope_of_names}
 use Rattle.sour_syntax.proofs.LabelPlaces.{tested}
-use Rattle.sour_scope.specs.Numbered.{number_of}
-use Rattle.laws_scope.specs.Texts.{number_in}
-use Rattle.laws_scope.specs.Names.{is_among}
-use Rattle.laws_scope.specs.Landing.{scope_of}
+use Rattle.sour_checked.specs.Numbered.{number_of}
+use Rattle.sour_checked.specs.Texts.{number_in}
+use Rattle.sour_checked.specs.Names.{is_among}
+use Rattle.sour_checked.specs.Landing.{scope_of}
 
 -- what is set and set back
 pub set_back : (scope : Scope) (place : ℕ) (was other : Bool) → slice_get scope place ≡ Some was

@@ -18,14 +18,14 @@ use Rattle.sour_raw.specs.declared.raw.RawPlanJob.{RawPlanJob}
 use Rattle.sour_raw.specs.declared.raw.RawInput.{RawInput}
 use Rattle.sour_raw.specs.declared.raw.RawJob.{RawJob}
 use Rattle.sour_raw.specs.Written.{IsWrittenLine, IsWrittenVersion, IsWrittenFunction, IsWrittenJob, IsWrittenInput, IsWritten}
-use Rattle.sour_scope.specs.Outline.{outline, own_names}
-use Rattle.sour_scope.specs.Numbered.{label_of, literal_of, instr_of, lines_of, plan_job_of, plan_of, inputs_of}
-use Rattle.sour_scope.specs.Checked.{IsMain}
-use Rattle.sour_scope.proofs.OutlineLaws.{own_names-outline}
-use Rattle.sour_scope.proofs.NameLaws.{place_there}
-use Rattle.laws_scope.specs.Texts.{TextVersion, text_version, text_versions, function_names, number_in, variables, labels, body}
-use Rattle.laws_scope.specs.Parts.{instr_functions, instr_labels, leaves, job_functions, input_functions}
-use Rattle.laws_scope.specs.Names.{Broken, labelled, repeated, repeated_on, unknown_each, leave_broken, line_broken, end_broken, version_broken, function_broken, names_broken, takes_some, main_is_broken}
+use Rattle.sour_checked.specs.Outline.{outline, own_names}
+use Rattle.sour_checked.specs.Numbered.{label_of, literal_of, instr_of, lines_of, plan_job_of, plan_of, inputs_of}
+use Rattle.sour_checked.specs.Checked.{IsMain}
+use Rattle.laws_scope.proofs.OutlineLaws.{own_names-outline}
+use Rattle.laws_scope.proofs.NameLaws.{place_there}
+use Rattle.sour_checked.specs.Texts.{TextVersion, text_version, text_versions, function_names, number_in, variables, labels, body}
+use Rattle.sour_checked.specs.Parts.{instr_functions, instr_labels, leaves, job_functions, input_functions}
+use Rattle.sour_checked.specs.Names.{Broken, labelled, repeated, repeated_on, unknown_each, leave_broken, line_broken, end_broken, version_broken, function_broken, names_broken, takes_some, main_is_broken}
 use Rattle.laws_scope.specs.Right.{HasNames, HasDistinctNames, AreNamesRight}
 use Rattle.laws_scope.specs.Laws.{NamesExactly, MainExactly}
 use Rattle.laws_scope.proofs.Kit.{iff_then, iff_both, iff_three, iff_each, iff_given, iff_map, iff_append, none_both, none_three, none_each, none_if, differ_none, differ_on, AreAmong, known_each, number_found}
@@ -285,35 +285,37 @@ module _ (functions : List RawFunction) where
   name_of function = function.name
 
   -- what is found by the name is main
-  is_main : (found : Option RawFunction) → slice_get functions main_number ≡ found → main_is_broken found ≡ []
-      → (number : ℕ) × IsMain functions number
-  is_main None is none = absurd (cc)
-  is_main (Some function) is none =
+  by_main : (found : Option RawFunction) → slice_get functions main_number ≡ found → main_is_broken found ≡ []
+      → IsMain functions main_number
+  by_main None is none = absurd (cc)
+  by_main (Some function) is none =
       let there : slice_get (function_names functions) main_number ≡ Some function.name = slice_get-map name_of
       functions main_number ∙ ap (option_map name_of) is in
       let within = slice_get_within (function_names functions) main_number function.name there in
       let main = number_found (function_names functions) (codes "main") within in
-      let named : function.name ≡ codes "main" = let both : Some function.name ≡ Some (codes "main") = sym there
-      ∙ main in cc in (
-        main_number,
-        record {
-          function = function;
-          there = is;
-          name = named;
-          parameters = (takes_none function.parameters).0
-              ((none_if (takes_some function.parameters) 8 function.line).0 none);
-        },
-      )
+      record {
+        function = function;
+        there = is;
+        name = let both : Some function.name ≡ Some (codes "main") = sym there ∙ main in cc;
+        parameters = (takes_none function.parameters).0
+            ((none_if (takes_some function.parameters) 8 function.line).0 none);
+      }
 
-  -- main is found by its name
+  -- where its rule isn't broken there is one
+  pub main_there : main_is_broken (slice_get functions main_number) ≡ [] → IsMain functions main_number
+  main_there none = by_main (slice_get functions main_number) refl none
+
+  -- where no two functions have the same name, main is the first of its name
+  pub main_is : (number : ℕ) → NamesDiffer (function_names functions) → IsMain functions number → number ≡ main_number
+  main_is number differ main = place_there (function_names functions) (codes "main") number differ
+      (slice_get-map name_of functions number ∙ ap (option_map name_of) main.there ∙ ap Some main.name)
+
+  -- so its rule isn't broken
   main_found : (number : ℕ) → NamesDiffer (function_names functions) → IsMain functions number
       → main_is_broken (slice_get functions main_number) ≡ []
   main_found number differ main =
-      let there : slice_get (function_names functions) number ≡ Some (codes "main") =
-      slice_get-map name_of functions number ∙ ap (option_map name_of) main.there ∙ ap Some main.name in
-      let same : number ≡ main_number = place_there (function_names functions) (codes "main") number differ there in
-      let found : slice_get functions main_number ≡ Some main.function = ap (slice_get functions) (sym same)
-      ∙ main.there in
+      let found : slice_get functions main_number ≡ Some main.function =
+      ap (slice_get functions) (sym (main_is number differ main)) ∙ main.there in
       ap main_is_broken found ∙ (none_if (takes_some main.function.parameters) 8 main.function.line).1
       ((takes_none main.function.parameters).1 main.parameters)
 
@@ -331,6 +333,6 @@ functions_differ raw none =
 -- and then there is a function main without parameters exactly where its rule isn't broken
 pub main_exactly : MainExactly
 main_exactly raw none = (
-  (λ is. is_main raw.functions (slice_get raw.functions (main_number raw.functions)) refl is),
+  (λ is. (main_number raw.functions, main_there raw.functions is)),
   λ main. main_found raw.functions main.0 (functions_differ raw none) main.1,
 )

@@ -1,16 +1,10 @@
 -- A text has one first fault at most.
-use Rattle.std.proofs.Common.{◌≡◌, inl, inr, zero, suc, List, [], ◌∷◌, Option, None, Some, Contains, sym, ap, ◌∙◌, subst, arith}
-use Rattle.std.specs.List.{AllByRecursion}
-use Rattle.laws_scope.specs.Fault.{Fault, plain}
-use Rattle.laws_scope.specs.Names.{Broken, IsNotAfter}
-use Rattle.laws_scope.specs.FirstFault.{IsBroken}
+use Rattle.std.proofs.Common.{◌≡◌, inl, inr, List, [], ◌∷◌, Option, None, Some, sym, ap, ◌∙◌, arith}
+use Rattle.sour_syntax.proofs.Everywhere.{AllByRecursion-contains}
+use Rattle.sour_checked.specs.Fault.{Fault, plain}
+use Rattle.sour_checked.specs.Names.{Broken, IsNotAfter}
+use Rattle.sour_checked.specs.FirstFault.{IsBroken}
 use Rattle.laws_scope.specs.Laws.{FaultsOnce}
-
--- what holds of each holds of one of them
-pub of_each : {X : Type 0} (P : X → Type 0) (xs : List X) (x : X) → Contains xs x → AllByRecursion P xs → P x
-of_each P [] x (place, within, is) all = absurd (omega arith)
-of_each P (first ∷ xs) x (zero, within, is) all = subst P is all.0
-of_each P (first ∷ xs) x (suc place, within, is) all = of_each P xs x (place, omega arith, is) all.1
 
 -- two that aren't after each other are on one line, and of one number
 not_after_both : (one other : Broken) → IsNotAfter one other → IsNotAfter other one → (one.line ≡ other.line)
@@ -23,11 +17,11 @@ not_after_both one other (inr before) (inr after) =
     let most = after.1 in (before.0, omega arith)
 
 -- one of these comes first at most
-broken_once : (all : List Broken) (fault other : Fault) → IsBroken all fault → IsBroken all other → fault ≡ other
+pub broken_once : (all : List Broken) (fault other : Fault) → IsBroken all fault → IsBroken all other → fault ≡ other
 broken_once all fault other one another =
     let same = not_after_both one.broken another.broken
-    (of_each (IsNotAfter one.broken) all another.broken another.first.is one.first.least)
-    (of_each (IsNotAfter another.broken) all one.broken one.first.is another.first.least) in
+    (AllByRecursion-contains (IsNotAfter one.broken) all another.broken another.first.is one.first.least)
+    (AllByRecursion-contains (IsNotAfter another.broken) all one.broken one.first.is another.first.least) in
     one.is ∙ ap (λ kind. plain kind one.broken.line) same.1 ∙ ap (plain another.broken.kind) same.0 ∙ sym another.is
 
 -- none of no rules is broken

@@ -1,13 +1,13 @@
 -- What it says of the continuations of an exit that what they name is there.
 use Rattle.std.proofs.Common.{◌≡◌, ◌≢◌, ◌↔◌, ◌+◌, ◌<◌, ℕ, zero, suc, true, List, [], ◌∷◌, Option, None, Some, Contains, length, map, refl, sym, ap, ◌∙◌, subst, arith}
 use Rattle.std.specs.Prelude.{IfSome, option_map, slice_get}
-use Rattle.std.specs.List.{AllByRecursion, flat_map, position_or_len}
+use Rattle.std.specs.List.{AllByRecursion, AllZip, flat_map, position_or_len}
 use Rattle.std.specs.Str.{bytes_eq}
 use Rattle.std.proofs.lemmas.Option.{slice_get-map}
 use Rattle.sour_syntax.specs.declared.literal.VarId.{VarId}
 use Rattle.sour_syntax.specs.declared.program.Function.{Function}
 use Rattle.sour_syntax.specs.BodyView.{BodyView}
-use Rattle.sour_syntax.specs.Exits.{Continuation, top_continuation, extra_continuation, continuations, continuations_of, bound_names}
+use Rattle.sour_syntax.specs.Exits.{Continuation, extra_continuation, continuations, continuations_of, bound_names}
 use Rattle.sour_syntax.specs.Labels.{labels_of}
 use Rattle.sour_syntax.specs.Program.{NamesDiffer}
 use Rattle.sour_syntax.specs.Targets.{version_body, text_body, named_body, VariablesDiffer, IsNamed}
@@ -19,13 +19,14 @@ use Rattle.sour_raw.specs.declared.raw.RawInstr.TheVariants.{Var, Drop, Assign, 
 use Rattle.sour_raw.specs.declared.raw.RawPlace.{RawPlace}
 use Rattle.sour_raw.specs.declared.raw.RawVersion.{RawVersion}
 use Rattle.sour_raw.specs.declared.raw.RawFunction.{RawFunction}
-use Rattle.sour_scope.specs.Outline.{names_in, outline, own_names, own_version_names, versions_in, variables_in, version_number, place_function, place_variables, version_names as version_names_of}
-use Rattle.sour_scope.specs.Numbered.{number_of, target_of, map_of, extra_of, exit_of, instr_of, version_of, function_of, functions_of}
-use Rattle.sour_scope.proofs.OutlineLaws.{own_names-outline}
-use Rattle.laws_scope.specs.Texts.{TextVersion, text_version, function_names, version_names, number_in, version_in, version_at, variables, labels, body}
-use Rattle.laws_scope.specs.Parts.{Leave, left_names, further, exit_leaves, leaves}
-use Rattle.laws_scope.specs.Names.{is_among, repeated_on, unknown_on, unknown_each, unknown_result, unknown_target, leave_broken}
-use Rattle.laws_scope.proofs.Kit.{iff_then, iff_both, iff_each, iff_map, none_both, none_three, none_each, none_if_not, differ_on, AreAmong, known_each, among_number, among_contains, number_found}
+use Rattle.sour_checked.specs.Outline.{names_in, outline, own_names, own_version_names, versions_in, variables_in, version_number, place_function, place_variables, version_names as version_names_of}
+use Rattle.sour_checked.specs.Numbered.{number_of, target_of, map_of, extra_of, exit_of, instr_of, version_of, function_of, functions_of}
+use Rattle.laws_scope.proofs.OutlineLaws.{own_names-outline}
+use Rattle.sour_checked.specs.Texts.{TextVersion, text_version, function_names, version_names, number_in, version_in, version_at, variables, labels, body}
+use Rattle.sour_checked.specs.Landing.{waiting}
+use Rattle.sour_checked.specs.Parts.{Leave, left_names, further, exit_leaves, leaves}
+use Rattle.sour_checked.specs.Names.{is_among, repeated_on, unknown_on, unknown_each, unknown_result, unknown_target, leave_broken}
+use Rattle.laws_scope.proofs.Kit.{iff_then, iff_both, iff_each, iff_map, iff_zip, none_both, none_three, none_each, none_if_not, differ_on, AreAmong, known_each, among_number, among_contains, number_found}
 use Rattle.laws_scope.proofs.VersionRules.{labels_are}
 
 module _ (functions : List RawFunction) where
@@ -34,7 +35,7 @@ module _ (functions : List RawFunction) where
   numbered = functions_of (outline functions) 0 functions
 
   -- the function at a place, where the first has this number
-  functions_at : (number last place : ℕ) (some : List RawFunction) → last ≡ number + place
+  pub functions_at : (number last place : ℕ) (some : List RawFunction) → last ≡ number + place
       → slice_get (functions_of (outline functions) number some) place ≡ option_map
       (function_of (outline functions) last) (slice_get some place)
   functions_at number last place [] is = refl
@@ -166,13 +167,9 @@ module _ (names : List (List ℕ)) where
   numbers_differ [] among = ((λ all. tt), λ all. tt)
   numbers_differ (name ∷ some) among = iff_both (other_numbers name some among.0 among.1) (numbers_differ some among.1)
 
-  -- the number of the variable that waits
-  abbrev pub waiting : Option (List ℕ) → Option ℕ
-  waiting waits = option_map (λ name. (number_of names name).0) waits
-
-  -- it is there where its number is below the count
+  -- the variable that waits is there where its number is below the count
   waits_rule : (line : ℕ) (waits : Option (List ℕ)) → (unknown_result line names waits ≡ [])
-      ↔ IfSome (waiting waits) (λ x. x < length names)
+      ↔ IfSome (waiting names waits) (λ x. x < length names)
   waits_rule line None = ((λ is. tt), λ is. refl)
   waits_rule line (Some name) = iff_then (none_if_not (is_among names name) 2 line) (among_number names name)
 
@@ -313,48 +310,50 @@ module _ (functions : List RawFunction) (names : List (List ℕ)) where
     waits = refl;
   }
 
-  module _ (P : Leave → Type 0) (Q : Continuation → Type 0)
-      (each : (leave : Leave) (continuation : Continuation) → IsMade functions leave continuation → P leave
-      ↔ Q continuation) where
-    -- so what is the same of both is the same of further ones
-    of_further : (extras : List RawExtra) → AllByRecursion P (map further extras)
-        ↔ AllByRecursion Q (map extra_continuation (map (extra_of (outline functions) names) extras))
-    of_further [] = ((λ all. tt), λ all. tt)
-    of_further (extra ∷ extras) =
-        iff_both (each (further extra) (extra_continuation (extra_of (outline functions) names extra))
-        (further_made extra)) (of_further extras)
+  -- so are all further ones
+  each_further : (extras : List RawExtra) → AllZip (IsMade functions) (map further extras)
+      (map extra_continuation (map (extra_of (outline functions) names) extras))
+  each_further [] = tt
+  each_further (extra ∷ extras) = (further_made extra, each_further extras)
 
-    -- of all of an exit
-    of_exit : (exit : RawExit) → AllByRecursion P (exit_leaves exit)
-        ↔ AllByRecursion Q (continuations (exit_of (outline functions) names exit))
-    of_exit exit =
-        let top : Leave = record { target = exit.target; names = left_names exit.map; waits = None } in
-        let made : IsMade functions top (top_continuation (exit_of (outline functions) names exit)) =
-        record {
-          target = refl;
-          names = bound_are (place_variables (outline functions) exit.target) exit.map;
-          waits =
-              refl;
-        } in
-        iff_both (each top (top_continuation (exit_of (outline functions) names exit)) made) (of_further exit.extras)
+  -- all of an exit
+  each_of_exit : (exit : RawExit) → AllZip (IsMade functions) (exit_leaves exit)
+      (continuations (exit_of (outline functions) names exit))
+  each_of_exit exit = (
+    record {
+      target = refl;
+      names = bound_are (place_variables (outline functions) exit.target) exit.map;
+      waits = refl;
+    },
+    each_further exit.extras,
+  )
 
-    -- and of an instruction
-    pub of_leaves : (instr : RawInstr) → AllByRecursion P (leaves instr)
-        ↔ AllByRecursion Q (continuations_of (instr_of (outline functions) names instr))
-    of_leaves (Var x e) = ((λ all. tt), λ all. tt)
-    of_leaves (Drop x) = ((λ all. tt), λ all. tt)
-    of_leaves (Assign x e) = ((λ all. tt), λ all. tt)
-    of_leaves (ArrayLength x e) = ((λ all. tt), λ all. tt)
-    of_leaves (ArrayList x es) = ((λ all. tt), λ all. tt)
-    of_leaves (Store x index e) = ((λ all. tt), λ all. tt)
-    of_leaves (Print e) = ((λ all. tt), λ all. tt)
-    of_leaves (Read x) = ((λ all. tt), λ all. tt)
-    of_leaves (Branch e a b) = ((λ all. tt), λ all. tt)
-    of_leaves (Goto a) = ((λ all. tt), λ all. tt)
-    of_leaves (Call x callee es) = ((λ all. tt), λ all. tt)
-    of_leaves (Return e) = ((λ all. tt), λ all. tt)
-    of_leaves Stop = ((λ all. tt), λ all. tt)
-    of_leaves (Assume es exit) = of_exit exit
+  -- and all of an instruction
+  pub each_made : (instr : RawInstr) → AllZip (IsMade functions) (leaves instr)
+      (continuations_of (instr_of (outline functions) names instr))
+  each_made (Var x e) = tt
+  each_made (Drop x) = tt
+  each_made (Assign x e) = tt
+  each_made (ArrayLength x e) = tt
+  each_made (ArrayList x es) = tt
+  each_made (Store x index e) = tt
+  each_made (Print e) = tt
+  each_made (Read x) = tt
+  each_made (Branch e a b) = tt
+  each_made (Goto a) = tt
+  each_made (Call x callee es) = tt
+  each_made (Return e) = tt
+  each_made Stop = tt
+  each_made (Assume es exit) = each_of_exit exit
+
+  -- what is the same of each that is written and of the one made of it is the same of all of an instruction
+  pub of_leaves : (P : Leave → Type 0) (Q : Continuation → Type 0)
+      → ((leave : Leave) (continuation : Continuation) → IsMade functions leave continuation → P leave ↔ Q continuation)
+      → (instr : RawInstr) → AllByRecursion P (leaves instr)
+      ↔ AllByRecursion Q (continuations_of (instr_of (outline functions) names instr))
+  of_leaves P Q each instr =
+      iff_zip P Q (IsMade functions) each (leaves instr)
+      (continuations_of (instr_of (outline functions) names instr)) (each_made instr)
 
   -- what the continuations of an instruction name is there where none of their rules is broken
   pub leaves_rule : (line : ℕ) (instr : RawInstr)

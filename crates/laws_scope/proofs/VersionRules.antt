@@ -10,11 +10,11 @@ use Rattle.sour_raw.specs.declared.raw.RawInstr.{RawInstr}
 use Rattle.sour_raw.specs.declared.raw.RawInstr.TheVariants.{Var, Drop, Assign, ArrayLength, ArrayList, Store, Print, Read, Branch, Goto, Call, Return, Stop, Assume}
 use Rattle.sour_raw.specs.declared.raw.RawLine.{RawLine}
 use Rattle.sour_raw.specs.declared.raw.RawFunction.{RawFunction}
-use Rattle.sour_scope.specs.Outline.{outline}
-use Rattle.sour_scope.specs.Numbered.{label_of, instr_of, lines_of}
-use Rattle.laws_scope.specs.Texts.{labels_from}
-use Rattle.laws_scope.specs.Parts.{instr_labels, is_terminator}
-use Rattle.laws_scope.specs.Names.{Labelled, labelled, repeated, end_broken, unknown_each, is_among}
+use Rattle.sour_checked.specs.Outline.{outline}
+use Rattle.sour_checked.specs.Numbered.{label_of, instr_of, lines_of}
+use Rattle.sour_checked.specs.Texts.{labels_from}
+use Rattle.sour_checked.specs.Parts.{instr_labels, is_terminator}
+use Rattle.sour_checked.specs.Names.{Labelled, labelled, repeated, end_broken, unknown_each, is_among}
 use Rattle.laws_scope.proofs.Kit.{iff_then, iff_both, iff_each, none_if_not, differ_none, known_each, among_contains}
 
 -- the label of a labelled thing, and its line

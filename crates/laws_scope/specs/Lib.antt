@@ -1,9 +1,3 @@
-pub mod Fault
-pub mod Texts
-pub mod Parts
-pub mod Names
-pub mod Taking
-pub mod Landing
-pub mod FirstFault
 pub mod Right
+pub mod TextOrder
 pub mod Laws

@@ -9,10 +9,14 @@ use Rattle.sour_syntax.specs.Program.{ProgramView}
 use Rattle.sour_semantics.specs.Block.{BlockEnd, memory, RunShows, RunShowsAll}
 use Rattle.std.specs.Io.KnownBytes.{Appends}
 use Rattle.sour_commands.specs.declared.tally.Tally.{Tally}
+use Rattle.sour_commands.specs.Accepted.{JobView}
+use Rattle.sour_commands.specs.Status.{status_of_blocks}
 use Rattle.sour_commands.specs.Tally.{Counts}
+use Rattle.sour_commands.specs.Writes.{WritesBlocks}
 
 -- the blocks of the first inputs, and then those of the others
-pub RunShowsAll-append : (program : ProgramView) (first others : List (List Literal)) (number budget : ℕ) (ends more : List BlockEnd) (bytes rest : List ℕ)
+pub RunShowsAll-append : (program : ProgramView) (first others : List (List Literal)) (number budget : ℕ)
+    (ends more : List BlockEnd) (bytes rest : List ℕ)
     → RunShowsAll program first number budget ends bytes
     → RunShowsAll program others (number + length first) budget more rest
     → RunShowsAll program (first ++ others) number budget (ends ++ more) (bytes ++ rest)
@@ -34,7 +38,8 @@ RunShowsAll-append program (input ∷ inputs) others number budget (end ∷ ends
     )
 
 -- the block of one input more
-pub RunShowsAll-push : (program : ProgramView) (first : List (List Literal)) (input : List Literal) (number budget : ℕ) (ends : List BlockEnd) (end : BlockEnd) (bytes block : List ℕ)
+pub RunShowsAll-push : (program : ProgramView) (first : List (List Literal)) (input : List Literal) (number budget : ℕ)
+    (ends : List BlockEnd) (end : BlockEnd) (bytes block : List ℕ)
     → RunShowsAll program first number budget ends bytes
     → RunShows program input (number + length first) budget end block
     → RunShowsAll program (first ++ input ∷ []) number budget (ends ++ end ∷ []) (bytes ++ block)
@@ -54,7 +59,8 @@ some_blocks program (input ∷ inputs) number budget =
     )
 
 -- what was written so far: the blocks of these inputs
-pub record Wrote (program : ProgramView) (inputs : List (List Literal)) (budget : ℕ) (before after : Option (List ℕ)) (tally : Tally) : Type 0 where
+pub record Wrote (program : ProgramView) (inputs : List (List Literal)) (budget : ℕ)
+    (before after : Option (List ℕ)) (tally : Tally) : Type 0 where
   pub ends : List BlockEnd
   pub bytes : List ℕ
   pub shows : RunShowsAll program inputs 1 budget ends bytes
@@ -62,7 +68,8 @@ pub record Wrote (program : ProgramView) (inputs : List (List Literal)) (budget 
   pub counts : Counts ends tally
 
 -- the input at a place is the one behind those before it
-next_shown : (program : ProgramView) (inputs : List (List Literal)) (input : List Literal) (place number budget : ℕ) (end : BlockEnd) (block : List ℕ)
+next_shown : (program : ProgramView) (inputs : List (List Literal)) (input : List Literal) (place number budget : ℕ)
+    (end : BlockEnd) (block : List ℕ)
     → place < length inputs → number ≡ place + 1
     → RunShows program input number budget end block
     → RunShows program input (1 + length (take place inputs)) budget end block
@@ -71,7 +78,8 @@ next_shown program inputs input place number budget end block within same shown 
     subst (λ n. RunShows program input n budget end block) at shown
 
 -- behind the blocks of the first inputs, the block of the next makes those of one input more
-pushed : (program : ProgramView) (inputs : List (List Literal)) (input : List Literal) (place number budget : ℕ) (ends : List BlockEnd) (end : BlockEnd) (bytes block : List ℕ)
+pushed : (program : ProgramView) (inputs : List (List Literal)) (input : List Literal) (place number budget : ℕ)
+    (ends : List BlockEnd) (end : BlockEnd) (bytes block : List ℕ)
     → place < length inputs → input ≡ get_or inputs place input → number ≡ place + 1
     → RunShowsAll program (take place inputs) 1 budget ends bytes
     → RunShows program input number budget end block
@@ -84,43 +92,60 @@ pushed program inputs input place number budget ends end bytes block within is s
     (next_shown program inputs input place number budget end block within same shown))
 
 -- one more block was written
-pub Wrote-more : (program : ProgramView) (inputs : List (List Literal)) (input : List Literal) (place number budget : ℕ) (before mid after : Option (List ℕ)) (old new : Tally) (end : BlockEnd) (block : List ℕ)
+pub Wrote-more : (program : ProgramView) (inputs : List (List Literal)) (input : List Literal) (place number budget : ℕ)
+    (before mid after : Option (List ℕ)) (old new : Tally) (end : BlockEnd) (block : List ℕ)
     → place < length inputs → input ≡ get_or inputs place input → number ≡ place + 1
     → Wrote program (take place inputs) budget before mid old
     → RunShows program input number budget end block
     → Appends mid after block
     → ((ends : List BlockEnd) → Counts ends old → Counts (ends ++ end ∷ []) new)
     → Wrote program (take (place + 1) inputs) budget before after new
-Wrote-more program inputs input place number budget before mid after old new end block within is same wrote shown more counts = record {
-  ends = wrote.ends ++ end ∷ [];
-  bytes = wrote.bytes ++ block;
-  shows = pushed program inputs input place number budget wrote.ends end wrote.bytes block within is same wrote.shows shown;
-  written = Appends-trans before mid after wrote.bytes block wrote.written more;
-  counts = counts wrote.ends wrote.counts;
-}
+Wrote-more program inputs input place number budget before mid after old new end block
+    within is same wrote shown more counts = record {
+      ends = wrote.ends ++ end ∷ [];
+      bytes = wrote.bytes ++ block;
+      shows = pushed program inputs input place number budget wrote.ends end wrote.bytes block
+          within is same wrote.shows shown;
+      written = Appends-trans before mid after wrote.bytes block wrote.written more;
+      counts = counts wrote.ends wrote.counts;
+    }
 
 -- blocks of all the inputs, of which some of the first bytes were written
-pub record WroteFront (program : ProgramView) (inputs : List (List Literal)) (budget : ℕ) (before after : Option (List ℕ)) : Type 0 where
+pub record WroteFront (program : ProgramView) (inputs : List (List Literal)) (budget : ℕ)
+    (before after : Option (List ℕ)) : Type 0 where
   pub ends : List BlockEnd
   pub bytes : List ℕ
   pub shows : RunShowsAll program inputs 1 budget ends bytes
   pub front : AppendsFront before after bytes
 
 -- the sink failed within the next block
-pub Wrote-failed : (program : ProgramView) (inputs : List (List Literal)) (input : List Literal) (place number budget : ℕ) (before mid after : Option (List ℕ)) (tally : Tally) (end : BlockEnd) (block : List ℕ)
+pub Wrote-failed : (program : ProgramView) (inputs : List (List Literal)) (input : List Literal)
+    (place number budget : ℕ) (before mid after : Option (List ℕ)) (tally : Tally) (end : BlockEnd) (block : List ℕ)
     → place < length inputs → input ≡ get_or inputs place input → number ≡ place + 1
     → Wrote program (take place inputs) budget before mid tally
     → RunShows program input number budget end block
     → AppendsFront mid after block
     → WroteFront program inputs budget before after
-Wrote-failed program inputs input place number budget before mid after tally end block within is same wrote shown part =
-    let count = length (take (place + 1) inputs) in
-    let others = some_blocks program (drop (place + 1) inputs) (1 + count) budget in
-    let shows = RunShowsAll-append program (take (place + 1) inputs) (drop (place + 1) inputs) 1 budget (wrote.ends ++ end ∷ []) others.0 (wrote.bytes ++ block) others.1
-    (pushed program inputs input place number budget wrote.ends end wrote.bytes block within is same wrote.shows shown) others.2 in
+Wrote-failed program inputs input place number budget before mid after tally end block
+    within is same wrote shown part =
+    let first = take (place + 1) inputs in
+    let left = drop (place + 1) inputs in
+    let ends = wrote.ends ++ end ∷ [] in
+    let bytes = wrote.bytes ++ block in
+    let others = some_blocks program left (1 + length first) budget in
+    let shown_first = pushed program inputs input place number budget wrote.ends end wrote.bytes block
+    within is same wrote.shows shown in
+    let shows = RunShowsAll-append program first left 1 budget ends others.0 bytes others.1 shown_first others.2 in
+    let written = AppendsFront-behind before mid after wrote.bytes block wrote.written part in
     record {
-      ends = (wrote.ends ++ end ∷ []) ++ others.0;
-      bytes = (wrote.bytes ++ block) ++ others.1;
-      shows = subst (λ all. RunShowsAll program all 1 budget ((wrote.ends ++ end ∷ []) ++ others.0) ((wrote.bytes ++ block) ++ others.1)) (take-append-drop (place + 1) inputs) shows;
-      front = AppendsFront-longer before after (wrote.bytes ++ block) others.1 (AppendsFront-behind before mid after wrote.bytes block wrote.written part);
+      ends = ends ++ others.0;
+      bytes = bytes ++ others.1;
+      shows = subst (λ all. RunShowsAll program all 1 budget (ends ++ others.0) (bytes ++ others.1))
+          (take-append-drop (place + 1) inputs) shows;
+      front = AppendsFront-longer before after bytes others.1 written;
     }
+
+-- what a run writes are blocks of all the inputs, and they give the status
+pub WritesBlocks-from : (job : JobView) (budget : ℕ) (ends : List BlockEnd) (bytes : List ℕ)
+    → RunShowsAll job.program job.inputs 1 budget ends bytes → WritesBlocks budget job (status_of_blocks ends) bytes
+WritesBlocks-from job budget ends bytes shows = record { ends = ends; shows = shows; by_ends = refl }

@@ -1,5 +1,5 @@
 -- Numbers among the words.
-use Rattle.std.proofs.Common.{◌≡◌, ◌↔◌, ◌≤◌, ◌<◌, ◌^◌, ℕ, true, List, [], ◌∷◌, Option, Some, None, length, ap, sym, ◌∙◌, subst, inl, inr, arith, get_or, codes}
+use Rattle.std.proofs.Common.{◌≡◌, ◌↔◌, ◌≤◌, ◌<◌, ◌^◌, ℕ, true, List, [], ◌∷◌, Option, Some, None, length, ap, sym, ◌∙◌, arith}
 use Rattle.std.specs.Char.{is_ascii_digit}
 use Rattle.std.specs.List.{AllPass}
 use Rattle.std.proofs.lemmas.List.Elements.{All-head, All-tail, All-cons}
@@ -8,17 +8,20 @@ use Rattle.std.specs.Str.Parse.{AllDigits, digits_value}
 use Rattle.std.proofs.lemmas.Str.Parse.{digits_value_short, numerals_by_value, tells_digits}
 use Rattle.sour_tokens.specs.Token.{IsDigits}
 use Rattle.sour_commands.proofs.DigitLemmas.{AllDigits-from_token}
-use Rattle.sour_commands.specs.Answer.{WritesNumber, IsBudget, AskForRun}
+use Rattle.sour_commands.specs.Words.{WritesNumber, IsBudget}
 
 -- eight digits write a number of less than 64 bits
 short-fits : (word : List ℕ) → IsDigits word → length word ≤ 8 → digits_value 10 word < 2 ^ 64
 short-fits word digits short =
-    let below : digits_value 10 word < 10 ^ 8 = digits_value_short (numerals_by_value (AllDigits 10) tells_digits) word 8 (AllDigits-from_token word digits) short in
+    let numerals = numerals_by_value (AllDigits 10) tells_digits in
+    let below : digits_value 10 word < 10 ^ 8 =
+    digits_value_short numerals word 8 (AllDigits-from_token word digits) short in
     omega (arith, below)
 
 -- what is read of one to eight digits is the number that they write
 pub WritesNumber-read : (word : List ℕ) (read : Option ℕ) → IsDigits word → length word ≤ 8
-    → SomeIff read (digits_value 10 word < 2 ^ 64) (digits_value 10 word) → (number : ℕ) → WritesNumber number word ↔ (read ≡ Some number)
+    → SomeIff read (digits_value 10 word < 2 ^ 64) (digits_value 10 word)
+    → (number : ℕ) → WritesNumber number word ↔ (read ≡ Some number)
 WritesNumber-read word None digits short told number = absurd (told (short-fits word digits short))
 WritesNumber-read word (Some found) digits short told number = (
   λ writes. ap Some (told.1 ∙ sym writes.value),
@@ -36,43 +39,14 @@ pub pass-IsDigits : (word : List ℕ) → IsDigits word → AllPass is_ascii_dig
 pass-IsDigits [] digits = absurd digits
 pass-IsDigits (b ∷ bytes) digits = All-cons (λ c. is_ascii_digit c ≡ true) b bytes digits.0 digits.1
 
--- where three words ask for a budget, the third writes it, and it is within the limits
-asked_for : (command option number : List ℕ) (budget : ℕ) → AskForRun (command ∷ option ∷ number ∷ []) budget → WritesNumber budget number × IsBudget budget
-asked_for command option number budget (inl default) = let no : command ∷ option ∷ number ∷ [] ≡ codes "run" ∷ [] = default.0 in cc
-asked_for command option number budget (inr (word, same, writes, is)) =
-    let here : number ≡ word = cc in (subst (WritesNumber budget) (sym here) writes, is)
-
--- three words, of which the first two are `run` and `--budget`, ask for what the third writes
-pub AskForRun-three : (command option number : List ℕ) (read : Option ℕ) → command ≡ codes "run" → option ≡ codes "--budget"
-    → ((budget : ℕ) → (WritesNumber budget number × IsBudget budget) ↔ (read ≡ Some budget))
-    → (budget : ℕ) → AskForRun (command ∷ option ∷ number ∷ []) budget ↔ (read ≡ Some budget)
-AskForRun-three command option number read first second told budget = (
-  λ asks. (told budget).0 (asked_for command option number budget asks),
-  λ same. let writes = (told budget).1 same in
-      inr (number, ap (λ (c : List ℕ). c ∷ option ∷ number ∷ []) first ∙ ap (λ (o : List ℕ). codes "run" ∷ o ∷ number ∷ []) second, writes.0, writes.1),
-)
-
--- a list of one element is that element alone
-pub list-one : {A : Type 0} (xs : List A) (x : A) → 1 ≤ length xs → length xs < 2 → x ≡ get_or xs 0 x → xs ≡ x ∷ []
-list-one [] x least most is = absurd (omega arith)
-list-one (y ∷ []) x least most is = ap (λ z. z ∷ []) (sym is)
-list-one (y ∷ z ∷ xs) x least most is = absurd (omega arith)
-
--- a list of three elements is these
-pub list-three : {A : Type 0} (xs : List A) (x y z : A) → 3 ≤ length xs → length xs < 4
-    → x ≡ get_or xs 0 x → y ≡ get_or xs 1 y → z ≡ get_or xs 2 z → xs ≡ x ∷ y ∷ z ∷ []
-list-three [] x y z least most first second third = absurd (omega arith)
-list-three (a ∷ []) x y z least most first second third = absurd (omega arith)
-list-three (a ∷ b ∷ []) x y z least most first second third = absurd (omega arith)
-list-three (a ∷ b ∷ c ∷ []) x y z least most first second third = cc
-list-three (a ∷ b ∷ c ∷ d ∷ xs) x y z least most first second third = absurd (omega arith)
-
 -- the number that a word writes is a budget where it is within the limits
-pub budget-some : (word : List ℕ) (found : ℕ) (kept : Option ℕ) → ((number : ℕ) → WritesNumber number word ↔ (Some found ≡ Some number))
+pub budget-some : (word : List ℕ) (found : ℕ) (kept : Option ℕ)
+    → ((number : ℕ) → WritesNumber number word ↔ (Some found ≡ Some number))
     → ((other : ℕ) → ((other ≡ found) × IsBudget other) ↔ (kept ≡ Some other))
     → (budget : ℕ) → (WritesNumber budget word × IsBudget budget) ↔ (kept ≡ Some budget)
 budget-some word found kept told limits budget = (
-  λ both. let same : Some found ≡ Some budget = (told budget).0 both.0 in let is : budget ≡ found = cc in (limits budget).0 (is, both.1),
+  λ both. let same : Some found ≡ Some budget = (told budget).0 both.0 in
+      let is : budget ≡ found = cc in (limits budget).0 (is, both.1),
   λ is. let both = (limits budget).1 is in ((told budget).1 (ap Some (sym both.0)), both.1),
 )
 
@@ -80,12 +54,3 @@ budget-some word found kept told limits budget = (
 pub budget-none : (word : List ℕ) → ((number : ℕ) → WritesNumber number word ↔ (◌≡◌ {A = Option ℕ} None (Some number)))
     → (budget : ℕ) → (WritesNumber budget word × IsBudget budget) ↔ (◌≡◌ {A = Option ℕ} None (Some budget))
 budget-none word told budget = (λ both. (told budget).0 both.0, λ is. cc)
-
--- a budget that words ask for is within the limits
-pub asked-within : (words : List (List ℕ)) (budget : ℕ) → AskForRun words budget → budget ≤ 10000000
-asked-within words budget (inl default) = omega (arith, default.1)
-asked-within words budget (inr (word, same, writes, is)) = is.most
-
--- what is none is no budget
-pub none-some : (budget : ℕ) → ◌≡◌ {A = Option ℕ} None (Some budget) → ⊥
-none-some budget same = cc

@@ -1,5 +1,9 @@
 pub mod Ports
 pub mod Status
-pub mod Answer
-pub mod Fault
 pub mod Tally
+pub mod Words
+pub mod Fault
+pub mod Answer
+pub mod Accepted
+pub mod Writes
+pub mod Due

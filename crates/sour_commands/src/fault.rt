@@ -1,15 +1,15 @@
 ghost use Rattle.std.specs.Prelude.{◌≡◌};
-ghost use Rattle.sour_commands.specs.Answer.{text_fault, text_of, status_of, IsGiven};
-ghost use Rattle.sour_commands.specs.Fault.{answer_of};
+ghost use Rattle.sour_commands.specs.declared.fault.Fault.TheVariants as fault;
+ghost use Rattle.sour_commands.specs.Answer.{refusal, IsGiven};
+ghost use Rattle.sour_commands.specs.Fault.{fault_line, fault_status};
+ghost use Rattle.sour_commands.specs.Ports.{sink_moves};
 
+use crate::output::write_output;
 use itoa::Buffer;
-use sour_ports::{Sink, write_all};
+use sour_ports::Sink;
 use sour_report::{ShortLine, put};
 
-/// The status where the sink failed.
-pub const SINK_FAILED: u8 = 5;
-
-/// Why a line is written in place of blocks.
+/// Why a line is written in place of what was asked for.
 #[derive(Clone, Copy, Debug, PartialEq, Eq)]
 pub enum Fault {
     /// The words ask for nothing that there is.
@@ -27,16 +27,21 @@ pub enum Fault {
         /// Its column in bytes, counted from 1.
         column: u64,
     },
-    /// The names or the scopes of the text are wrong.
-    ScopeUnplaced,
-    /// Memory was wanting before the first block.
+    /// The names or the scopes of the text are wrong: their first fault.
+    Scope {
+        /// The number of the fault, as `sour_scope` tells it.
+        kind: u32,
+        /// Its line, counted from 1.
+        line: u64,
+    },
+    /// There was no memory before anything was written.
     Memory,
 }
 
 impl Fault {
     /// The line that is written.
     fn line(self) -> ShortLine
-        ensures { result.items ≡ text_of (answer_of self) }
+        ensures { result.items ≡ fault_line self }
     {
         let mut written = ShortLine::new();
         match self {
@@ -44,7 +49,7 @@ impl Fault {
             Fault::Read => put(&mut written, b"fault read\n"),
             Fault::TextTooLong => put(&mut written, b"fault text 5 line 0 column 0\n"),
             Fault::Text { kind, line, column } => return text_line(kind, line, column),
-            Fault::ScopeUnplaced => put(&mut written, b"fault scope 0 line 0\n"),
+            Fault::Scope { kind, line } => return scope_line(kind, line),
             Fault::Memory => put(&mut written, b"fault memory\n"),
         }
         written
@@ -52,11 +57,11 @@ impl Fault {
 
     /// The status where the line was written.
     fn status(self) -> u8
-        ensures { result ≡ status_of (answer_of self) }
+        ensures { result ≡ fault_status self }
     {
         match self {
             Fault::Words => 2,
-            Fault::TextTooLong | Fault::Text { .. } | Fault::ScopeUnplaced => 3,
+            Fault::TextTooLong | Fault::Text { .. } | Fault::Scope { .. } => 3,
             Fault::Read => 4,
             Fault::Memory => 6,
         }
@@ -65,7 +70,7 @@ impl Fault {
 
 /// The line of the first fault of a text.
 fn text_line(kind: u32, line: u64, column: u64) -> ShortLine
-    ensures { result.items ≡ text_of (text_fault kind line column) }
+    ensures { result.items ≡ fault_line (fault.Text kind line column) }
 {
     let mut digits = Buffer::new();
     let mut written = ShortLine::new();
@@ -79,17 +84,23 @@ fn text_line(kind: u32, line: u64, column: u64) -> ShortLine
     written
 }
 
+/// The line of the first fault of names and scopes.
+fn scope_line(kind: u32, line: u64) -> ShortLine
+    ensures { result.items ≡ fault_line (fault.Scope kind line) }
+{
+    let mut digits = Buffer::new();
+    let mut written = ShortLine::new();
+    put(&mut written, b"fault scope ");
+    put(&mut written, digits.format(kind).as_bytes());
+    put(&mut written, b" line ");
+    put(&mut written, digits.format(line).as_bytes());
+    put(&mut written, b"\n");
+    written
+}
+
 /// Writes the line of a fault, and gives the status.
 pub fn write_fault<K: Sink>(sink: &mut K, fault: Fault) -> u8
-    ensures { IsGiven (answer_of fault) (record {
-      taken_before = K.taken sink.old;
-      taken_after = K.taken sink.new;
-      faults_before = K.faults sink.old;
-      faults_after = K.faults sink.new;
-    }) result }
+    ensures { IsGiven (refusal fault) (sink_moves K.taken K.faults sink.old sink.new) result }
 {
-    match write_all(sink, fault.line().as_slice()) {
-        Ok(()) => fault.status(),
-        Err(_) => SINK_FAILED,
-    }
+    write_output(sink, fault.line().as_slice(), fault.status())
 }

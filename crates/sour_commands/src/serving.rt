@@ -1,9 +1,12 @@
 ghost use Rattle.std.specs.Prelude.{◌≡◌, ◌≤◌, ℕ, List, length};
 ghost use Rattle.sour_semantics.specs.Block.{BlockEnd, RunShows, RunShowsAll};
 ghost use Rattle.sour_report.specs.Report.{end_kind, report_block};
-ghost use Rattle.sour_commands.specs.Answer.{blocks as block_answer, IsGiven};
+ghost use Rattle.sour_commands.specs.Answer.{output, IsGiven};
+ghost use Rattle.sour_commands.specs.Accepted.{job_view};
+ghost use Rattle.sour_commands.specs.Writes.{WritesBlocks};
+ghost use Rattle.sour_commands.specs.Ports.{sink_moves};
 
-use crate::fault::SINK_FAILED;
+use crate::output::SINK_FAILED;
 use crate::tally::Tally;
 use sour_machine::{Report, Run};
 use sour_ports::Sink;
@@ -21,7 +24,8 @@ fn run_input(
     budget: u64,
 ) -> Report
     requires { budget ≤ 10000000 }
-    ensures { RunShows program.now.value input.now number budget (end_kind result.end) (report_block program.now.value result) }
+    ensures { RunShows program.now.value input.now number budget
+        (end_kind result.end) (report_block program.now.value result) }
 {
     let Ok(program) = program.clone() else {
         return Report::wanting(alloc, number);
@@ -35,15 +39,9 @@ fn run_input(
 
 /// Runs each input and writes its block, in order, and gives the status.
 pub fn write_blocks<K: Sink>(alloc: Global, sink: &mut K, job: &Job, budget: u64) -> u8
-    requires budget { budget ≤ 10000000 }
-    ensures { (ends : List BlockEnd) × (bytes : List ℕ)
-        × RunShowsAll job.now.program.value job.now.inputs 1 budget ends bytes
-        × IsGiven (block_answer ends bytes) (record {
-          taken_before = K.taken sink.old;
-          taken_after = K.taken sink.new;
-          faults_before = K.faults sink.old;
-          faults_after = K.faults sink.new;
-        }) result }
+    requires { budget ≤ 10000000 }
+    ensures { (status : ℕ) × (bytes : List ℕ) × WritesBlocks budget (job_view job.now) status bytes
+        × IsGiven (output status bytes) (sink_moves K.taken K.faults sink.old sink.new) result }
 {
     let mut tally = Tally::new();
     for (place, input) in job.inputs.as_slice().iter().enumerate() {

@@ -28,7 +28,8 @@ impl Tally {
 
     /// Counts one more block.
     pub fn count(&mut self, end: End)
-        ensures { (ends : List BlockEnd) → Counts ends self.old → Counts (ends ++ end_kind end ∷ []) self.new }
+        ensures { (ends : List BlockEnd) → Counts ends self.old
+            → Counts (ends ++ end_kind end ∷ []) self.new }
     {
         match end {
             End::Returned(_) | End::Stopped => {}

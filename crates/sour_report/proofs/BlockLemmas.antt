@@ -25,13 +25,16 @@ front-head a b number output end part =
 pub front-output : (a b c : Option (List ℕ)) (number : ℕ) (output end : List ℕ)
     → Appends a b (head number) → AppendsFront b c output → AppendsFront a c (block number output end)
 front-output a b c number output end first part =
-    AppendsFront-longer a c (head number ++ output) (end ++ 10 ∷ []) (AppendsFront-behind a b c (head number) output first part)
+    AppendsFront-longer a c (head number ++ output) (end ++ 10 ∷ [])
+    (AppendsFront-behind a b c (head number) output first part)
 
 -- and a part of the last line behind both
 pub front-end : (a b c d : Option (List ℕ)) (number : ℕ) (output end : List ℕ)
-    → Appends a b (head number) → Appends b c output → AppendsFront c d (end ++ 10 ∷ []) → AppendsFront a d (block number output end)
+    → Appends a b (head number) → Appends b c output → AppendsFront c d (end ++ 10 ∷ [])
+    → AppendsFront a d (block number output end)
 front-end a b c d number output end first second part =
-    AppendsFront-behind a c d (head number ++ output) (end ++ 10 ∷ []) (Appends-trans a b c (head number) output first second) part
+    AppendsFront-behind a c d (head number ++ output) (end ++ 10 ∷ [])
+    (Appends-trans a b c (head number) output first second) part
 
 -- a part of the second of three pieces, behind the first
 pub front-second : (a b c : Option (List ℕ)) (first second third : List ℕ)

@@ -13,8 +13,10 @@ use sour_syntax::{Program, Trap, Value};
 
 /// Writes the first line of a block: the number of its input.
 fn write_head<K: Sink>(sink: &mut K, number: u64) -> Result<(), Failed>
-    ensures all { OnOk result (Appends (K.taken sink.old) (K.taken sink.new) (codes "input " ++ decimal number ++ 10 ∷ [])) }
-    ensures front { OnErr result (AppendsFront (K.taken sink.old) (K.taken sink.new) (codes "input " ++ decimal number ++ 10 ∷ [])) }
+    ensures all { OnOk result (Appends (K.taken sink.old) (K.taken sink.new)
+        (codes "input " ++ decimal number ++ 10 ∷ [])) }
+    ensures front { OnErr result (AppendsFront (K.taken sink.old) (K.taken sink.new)
+        (codes "input " ++ decimal number ++ 10 ∷ [])) }
     ensures cause { OnErr result (HasCause (K.faults sink.old) (K.faults sink.new)) }
     ensures count { K.faults sink.old ≤ K.faults sink.new }
 {
@@ -33,8 +35,10 @@ fn write_three<K: Sink>(
     second: &[u8],
     third: &[u8],
 ) -> Result<(), Failed>
-    ensures all { OnOk result (Appends (K.taken sink.old) (K.taken sink.new) (first.now ++ second.now ++ third.now)) }
-    ensures front { OnErr result (AppendsFront (K.taken sink.old) (K.taken sink.new) (first.now ++ second.now ++ third.now)) }
+    ensures all { OnOk result (Appends (K.taken sink.old) (K.taken sink.new)
+        (first.now ++ second.now ++ third.now)) }
+    ensures front { OnErr result (AppendsFront (K.taken sink.old) (K.taken sink.new)
+        (first.now ++ second.now ++ third.now)) }
     ensures cause { OnErr result (HasCause (K.faults sink.old) (K.faults sink.new)) }
     ensures count { K.faults sink.old ≤ K.faults sink.new }
 {
@@ -43,16 +47,18 @@ fn write_three<K: Sink>(
     write_all(sink, third)
 }
 
-/// Writes the last line of the block of a run that returned a value. `cells` is how many cells the array
-/// has to which it refers, if it refers to one.
+/// Writes the last line of the block of a run that returned a value. `cells` is how many cells the
+/// array has to which it refers, if it refers to one.
 fn write_returned<K: Sink>(
     sink: &mut K,
     program: &Program,
     value: Value,
     cells: u64,
 ) -> Result<(), Failed>
-    ensures all { OnOk result (Appends (K.taken sink.old) (K.taken sink.new) (end_line program.now cells (End.Returned value) ++ 10 ∷ [])) }
-    ensures front { OnErr result (AppendsFront (K.taken sink.old) (K.taken sink.new) (end_line program.now cells (End.Returned value) ++ 10 ∷ [])) }
+    ensures all { OnOk result (Appends (K.taken sink.old) (K.taken sink.new)
+        (end_line program.now cells (End.Returned value) ++ 10 ∷ [])) }
+    ensures front { OnErr result (AppendsFront (K.taken sink.old) (K.taken sink.new)
+        (end_line program.now cells (End.Returned value) ++ 10 ∷ [])) }
     ensures cause { OnErr result (HasCause (K.faults sink.old) (K.faults sink.new)) }
     ensures count { K.faults sink.old ≤ K.faults sink.new }
 {
@@ -69,8 +75,10 @@ fn write_returned<K: Sink>(
 
 /// Writes the last line of the block of a run that ended in a trap.
 fn write_trap<K: Sink>(sink: &mut K, trap: Trap) -> Result<(), Failed>
-    ensures all { OnOk result (Appends (K.taken sink.old) (K.taken sink.new) (codes "trap " ++ decimal (trap_number trap) ++ 10 ∷ [])) }
-    ensures front { OnErr result (AppendsFront (K.taken sink.old) (K.taken sink.new) (codes "trap " ++ decimal (trap_number trap) ++ 10 ∷ [])) }
+    ensures all { OnOk result (Appends (K.taken sink.old) (K.taken sink.new)
+        (codes "trap " ++ decimal (trap_number trap) ++ 10 ∷ [])) }
+    ensures front { OnErr result (AppendsFront (K.taken sink.old) (K.taken sink.new)
+        (codes "trap " ++ decimal (trap_number trap) ++ 10 ∷ [])) }
     ensures cause { OnErr result (HasCause (K.faults sink.old) (K.faults sink.new)) }
     ensures count { K.faults sink.old ≤ K.faults sink.new }
 {
@@ -84,8 +92,10 @@ fn write_trap<K: Sink>(sink: &mut K, trap: Trap) -> Result<(), Failed>
 
 /// Writes the last line of a block: how the run ended.
 fn write_end<K: Sink>(sink: &mut K, program: &Program, end: End, cells: u64) -> Result<(), Failed>
-    ensures all { OnOk result (Appends (K.taken sink.old) (K.taken sink.new) (end_line program.now cells end ++ 10 ∷ [])) }
-    ensures front { OnErr result (AppendsFront (K.taken sink.old) (K.taken sink.new) (end_line program.now cells end ++ 10 ∷ [])) }
+    ensures all { OnOk result (Appends (K.taken sink.old) (K.taken sink.new)
+        (end_line program.now cells end ++ 10 ∷ [])) }
+    ensures front { OnErr result (AppendsFront (K.taken sink.old) (K.taken sink.new)
+        (end_line program.now cells end ++ 10 ∷ [])) }
     ensures cause { OnErr result (HasCause (K.faults sink.old) (K.faults sink.new)) }
     ensures count { K.faults sink.old ≤ K.faults sink.new }
 {
@@ -100,8 +110,10 @@ fn write_end<K: Sink>(sink: &mut K, program: &Program, end: End, cells: u64) -> 
 
 /// Writes the block of a report on a run of this program. It takes no memory.
 pub fn write_block<K: Sink>(sink: &mut K, program: &Program, report: &Report) -> Result<(), Failed>
-    ensures all { OnOk result (Appends (K.taken sink.old) (K.taken sink.new) (report_block program.now report.now)) }
-    ensures front { OnErr result (AppendsFront (K.taken sink.old) (K.taken sink.new) (report_block program.now report.now)) }
+    ensures all { OnOk result (Appends (K.taken sink.old) (K.taken sink.new)
+        (report_block program.now report.now)) }
+    ensures front { OnErr result (AppendsFront (K.taken sink.old) (K.taken sink.new)
+        (report_block program.now report.now)) }
     ensures cause { OnErr result (HasCause (K.faults sink.old) (K.faults sink.new)) }
     ensures count { K.faults sink.old ≤ K.faults sink.new }
 {

@@ -1,177 +1,222 @@
--- The exits of a body, place by place, and of functions.
-use Rattle.std.proofs.Common.{◌≡◌, ◌↔◌, ◌+◌, ◌<◌, ◌≤◌, ℕ, suc, Bool, IsTrue, true, false, List, [], ◌∷◌, Option, None, Some, is_some, IfSome, IfNone, length, map, drop, slice_get, refl, sym, ap, ◌∙◌, subst, arith}
-use Rattle.std.proofs.lemmas.Option.{slice_get_within}
-use Rattle.std.specs.List.{AllByRecursion}
-use Rattle.std.specs.Str.{bytes_eq}
-use Rattle.std.proofs.lemmas.Slice.Eq.{bytes_eq-Decides}
-use borrow.Author.Count.{below_more}
+-- The first fault of the exits of the functions that are made of a text is that of the text.
+use Rattle.std.proofs.Common.{◌≡◌, ◌+◌, ◌<◌, ℕ, suc, true, zero-add, List, [], ◌∷◌, ◌++◌, Option, None, Some, length, map, refl, sym, ap, ◌∙◌, arith}
+use Rattle.std.specs.Prelude.{option_map, slice_get}
+use Rattle.std.specs.List.{AllByRecursion, AllZip, enumerate_from, zip}
+use Rattle.std.specs.Option.{option_to_list}
 use Rattle.sour_syntax.specs.declared.instruction.Line.{Line}
-use Rattle.sour_syntax.specs.declared.literal.VarId.{VarId}
-use Rattle.sour_syntax.specs.declared.program.Function.{Function}
+use Rattle.sour_syntax.specs.declared.place_state.PlaceState.{PlaceState}
 use Rattle.sour_syntax.specs.declared.program.Version.{Version}
-use Rattle.sour_syntax.specs.BodyView.{BodyView}
-use Rattle.sour_syntax.specs.declared.exit.Bind.{Bind}
-use Rattle.sour_syntax.specs.declared.exit.Extra.{Extra}
-use Rattle.sour_syntax.specs.declared.exit.Exit.{Exit}
-use Rattle.sour_syntax.specs.Exits.{Continuation, top_continuation, extra_continuation, continuations, continuations_of}
-use Rattle.sour_syntax.specs.Labels.{LabelsDiffer, from_label, label_at}
-use Rattle.sour_syntax.specs.Scopes.{Scope, HasScope, HasInScope, IsUnreached}
-use Rattle.sour_syntax.specs.Targets.{IsNamed, Lands, HasExits}
-use Rattle.sour_syntax.proofs.Everywhere.{AllByRecursion-found}
-use Rattle.sour_syntax.proofs.LabelPlaces.{from_label-first_label-drop, drop-slice_get}
-use Rattle.sour_syntax.proofs.NoExits.{taken}
-use Rattle.sour_scope.specs.Checked.{HaveExits}
-use Rattle.sour_scope.specs.Landings.{IsRight}
+use Rattle.sour_syntax.specs.Exits.{Continuation, continuations_of, bound_names}
+use Rattle.sour_syntax.specs.Labels.{labels_of}
+use Rattle.sour_syntax.specs.Scopes.{Scope}
+use Rattle.sour_syntax.specs.Taking.{place_scope}
+use Rattle.sour_syntax.specs.Targets.{IsNamed, named_body, scope_of_names}
+use Rattle.sour_raw.specs.declared.raw.RawLine.{RawLine}
+use Rattle.sour_raw.specs.declared.raw.RawVersion.{RawVersion}
+use Rattle.sour_raw.specs.declared.raw.RawFunction.{RawFunction}
+use Rattle.sour_checked.specs.Fault.{Fault, or_else, first_fault_of}
+use Rattle.sour_checked.specs.Landing.{places, scope_at, scope_of, fit_fault, leave_fault, reached_fault, lines_fault, landing_fault, target_fault as text_fault}
+use Rattle.sour_checked.specs.Names.{is_among}
+use Rattle.sour_checked.specs.Numbered.{number_of, instr_of, lines_of, version_of, function_of, functions_of}
+use Rattle.sour_checked.specs.Outline.{outline}
+use Rattle.sour_checked.specs.Parts.{Leave, leaves}
+use Rattle.sour_checked.specs.Texts.{TextVersion, text_version, text_versions, version_at, variables, number_in, body, line_numbers}
+use Rattle.laws_scope.specs.Right.{HasNames}
+use Rattle.laws_scope.proofs.Kit.{AreAmong, iff_append, iff_each, known_each, among_number, number_found}
+use Rattle.laws_scope.proofs.MaskRules.{scope_of_numbers}
+use Rattle.laws_scope.proofs.TargetRules.{numbered, body_at, IsMade, found, bound, waits, labelled, there, each_made}
+use Rattle.laws_scope.proofs.VariableNames.{variables_differ}
+use Rattle.laws_scope.proofs.VersionRules.{labels_are}
+use Rattle.sour_scope.specs.declared.numbered.NumberedVersion.{NumberedVersion}
+use Rattle.sour_scope.specs.Bodies.{line_numbers_in}
+use Rattle.sour_scope.specs.Landings.{names_of, label_scope, target_fault, continuation_fault, instr_fault, line_fault, version_fault, function_fault}
+use Rattle.sour_scope.specs.NumberedJob.{numbered_version, numbered_function, numbered_functions}
+use Rattle.sour_scope.proofs.FaultLaws.{first_of_append}
 
--- the frames of an exit are right where the top one is and the others are
-pub exit_right : (functions : List Function) (reached : Bool) (exit : Exit) (binds : List Bind) (extras : List Extra) → binds ≡ exit.map → extras ≡ exit.extras
-    → IsRight functions reached (record { target = exit.target; binds = binds; waits = None }) → (further : Bool)
-    → (IsTrue further ↔ AllByRecursion (IsRight functions reached) (map extra_continuation extras)) → IsTrue further ↔ AllByRecursion (IsRight functions reached) (continuations exit)
-exit_right functions reached exit binds extras bound these top further tested =
-    let first : IsRight functions reached (top_continuation exit) =
-    subst (λ (map : List Bind). IsRight functions reached (record { target = exit.target; binds = map; waits = None })) bound top in
-    let others : List Extra → Type 0 = λ some. AllByRecursion (IsRight functions reached) (map extra_continuation some) in
-    ((λ yes. (first, subst others these (tested.0 yes))), λ all. tested.1 (subst others (sym these) all.1))
+-- numbers
+none_more : (n : ℕ) → n + 0 ≡ n
+none_more n = omega arith
 
--- a line with its place
-pub record StandsAt (lines : List Line) (label : List ℕ) (line : Line) : Type 0 where
-  pub place : ℕ
-  pub there : slice_get lines place ≡ Some line
-  pub labelled : label_at lines place ≡ label
+next : (n k : ℕ) → n + 1 + k ≡ n + suc k
+next n k = omega arith
 
--- a line of the others has its place behind the first
-stands_later : (first : Line) (lines : List Line) (label : List ℕ) (line : Line) → StandsAt lines label line → StandsAt (first ∷ lines) label line
-stands_later first lines label line at = record { place = suc at.place; there = at.there; labelled = at.labelled }
+-- the names of the numbers of names are these names
+names_again : (names some : List (List ℕ)) → AreAmong names some → names_of names (map (number_of names) some) ≡ some
+names_again names [] among = refl
+names_again names (name ∷ some) among =
+    ap (λ (it : Option (List ℕ)). option_to_list it ++ names_of names (map (number_of names) some))
+    (number_found names name ((among_number names name).0 among.0))
+    ∙ ap (λ (others : List (List ℕ)). name ∷ others) (names_again names some among.1)
 
--- a line that is found by its label has a place, at which that label stands
-stands_at : (lines : List Line) (label : List ℕ) (line : Line) (rest : List Line) → from_label label lines ≡ line ∷ rest → StandsAt lines label line
-stands_at [] label line rest stands = cc
-stands_at (first ∷ lines) label line rest stands =
-    taken (StandsAt (first ∷ lines) label line) (bytes_eq first.label label) first lines (from_label label lines) line rest
-    (λ is same others. record { place = 0; there = ap Some same; labelled = (bytes_eq-Decides first.label label).0 is })
-    (λ behind. stands_later first lines label line (stands_at lines label line rest behind)) stands
+-- where each fault is that of the one at its side, the first one is too
+first_of_zip : {X Y : Type 0} (fault : X → Option Fault) (other : Y → Option Fault) (R : X → Y → Type 0)
+    (Q : Y → Type 0) → ((x : X) (y : Y) → R x y → Q y → fault x ≡ other y) → (xs : List X) (ys : List Y)
+    → AllZip R xs ys → AllByRecursion Q ys → first_fault_of fault xs ≡ first_fault_of other ys
+first_of_zip fault other R Q same [] [] each all = refl
+first_of_zip fault other R Q same [] (y ∷ ys) each all = absurd each
+first_of_zip fault other R Q same (x ∷ xs) [] each all = absurd each
+first_of_zip fault other R Q same (x ∷ xs) (y ∷ ys) each all =
+    ap (λ here. or_else here (first_fault_of fault xs)) (same x y each.0 all.0)
+    ∙ ap (or_else (other y)) (first_of_zip fault other R Q same xs ys each.1 all.1)
 
--- what holds at each place holds of each
-all_of_places : {X : Type 0} (P : X → Type 0) (xs : List X) → ((place : ℕ) (x : X) → slice_get xs place ≡ Some x → P x) → AllByRecursion P xs
-all_of_places P [] each = tt
-all_of_places P (x ∷ xs) each = (each 0 x refl, all_of_places P xs (λ place other at. each (suc place) other at))
+module _ (functions : List RawFunction) where
+  -- what is named is there
+  abbrev IsThere : Continuation → Type 0
+  IsThere continuation = IsNamed (numbered functions) [] continuation
 
-module _ {X : Type 0} (P Q : X → Type 0) where
-  -- where two things hold of each, the first does
-  all_first_of : (xs : List X) → AllByRecursion (λ x. P x × Q x) xs → AllByRecursion P xs
-  all_first_of [] all = tt
-  all_first_of (x ∷ xs) all = (all.0.0, all_first_of xs all.1)
+  module _ (line : ℕ) (leave : Leave) (continuation : Continuation) (made : IsMade functions leave continuation)
+      (named : IsThere continuation) where
+    -- where the version is there
+    module _ (text : TextVersion) (is : version_at functions leave.target ≡ Some text) where
+      -- the names of the map are among its variables
+      among : AreAmong (variables text) leave.names
+      among =
+          (known_each line (variables text) leave.names).0
+          (there functions line leave continuation made text is named).1.1
 
-  -- and the second
-  all_second_of : (xs : List X) → AllByRecursion (λ x. P x × Q x) xs → AllByRecursion Q xs
-  all_second_of [] all = tt
-  all_second_of (x ∷ xs) all = (all.0.1, all_second_of xs all.1)
+      -- the scope of its label
+      scope_same : scope_at functions text leave.target.label ≡ label_scope (body functions text) continuation.target.label
+      scope_same =
+          let at : List (List ℕ) → List ℕ → Option Scope =
+          λ all label. place_scope (slice_get (places functions text) (number_in all label)) in
+          ap (λ all. at all leave.target.label) (sym (labels_are functions (variables text) 0 text.version.lines))
+          ∙ ap (at (labels_of (body functions text).lines)) (sym (labelled functions line leave continuation made text is))
 
-  -- two things that hold of each
-  all_both : (xs : List X) → AllByRecursion P xs → AllByRecursion Q xs → AllByRecursion (λ x. P x × Q x) xs
-  all_both [] all others = tt
-  all_both (x ∷ xs) all others = ((all.0, others.0), all_both xs all.1 others.1)
+      -- the scope of its map
+      mapped_same : scope_of (variables text) leave.names
+          ≡ scope_of_names (length (variables text)) (bound_names continuation.binds)
+      mapped_same =
+          let below = (iff_each (λ name. is_among (variables text) name ≡ true)
+          (λ name. number_in (variables text) name < length (variables text)) (among_number (variables text))
+          leave.names).0 among in
+          scope_of_numbers (variables text) leave.names (variables_differ text.parameters text.version.lines) below
+          ∙ ap (scope_of_names (length (variables text))) (sym (bound functions line leave continuation made text is))
 
-module _ {X Y : Type 0} (f : X → Y) (P : Y → Type 0) where
-  -- what holds of what each gives holds of all that they give
-  pub all_given : (xs : List X) → AllByRecursion (λ x. P (f x)) xs → AllByRecursion P (map f xs)
-  all_given [] all = tt
-  all_given (x ∷ xs) all = (all.0, all_given xs all.1)
+      -- the names of its map
+      names_same : leave.names ≡ names_of (variables text) (bound_names continuation.binds)
+      names_same =
+          sym (ap (names_of (variables text)) (bound functions line leave continuation made text is)
+          ∙ names_again (variables text) leave.names among)
 
-  -- and the other way round
-  pub all_giving : (xs : List X) → AllByRecursion P (map f xs) → AllByRecursion (λ x. P (f x)) xs
-  all_giving [] all = tt
-  all_giving (x ∷ xs) all = (all.0, all_giving xs all.1)
+      -- so its fault is the same
+      by_text : leave_fault functions line leave ≡ continuation_fault (numbered functions) line continuation
+      by_text =
+          let names = variables text in
+          let wait = sym (waits functions line leave continuation made text is) in
+          ap (text_fault functions line leave) is
+          ∙ ap (λ w. fit_fault line names w leave.names (scope_of names leave.names)
+          (scope_at functions text leave.target.label)) wait
+          ∙ ap (λ these. fit_fault line names continuation.waits these (scope_of names leave.names)
+          (scope_at functions text leave.target.label)) names_same
+          ∙ ap (λ (mapped : Scope). fit_fault line names continuation.waits
+          (names_of names (bound_names continuation.binds)) mapped (scope_at functions text leave.target.label))
+          mapped_same
+          ∙ ap (fit_fault line names continuation.waits (names_of names (bound_names continuation.binds))
+          (scope_of_names (length names) (bound_names continuation.binds))) scope_same
+          ∙ sym (ap (target_fault line continuation) (found functions line leave continuation made text is))
 
--- what holds where a test is passed holds of each
-all_where : {X : Type 0} (P : X → Type 0) (test : Bool) (xs : List X) → (IsTrue test → AllByRecursion P xs) → AllByRecursion (λ x. IsTrue test → P x) xs
-all_where P test [] all = tt
-all_where P test (x ∷ xs) all = ((λ passed. (all passed).0), all_where P test xs (λ passed. (all passed).1))
+    -- by the version that is found
+    by_version : (at : Option TextVersion) → version_at functions leave.target ≡ at
+        → leave_fault functions line leave ≡ continuation_fault (numbered functions) line continuation
+    by_version None is =
+        let gone = ap (λ target. named_body (numbered functions) [] target.code) made.target
+        ∙ body_at functions leave.target ∙ ap (option_map (body functions)) is in
+        let here = named.found in absurd (cc)
+    by_version (Some text) is = by_text text is
 
--- and the other way round
-where_all : {X : Type 0} (P : X → Type 0) (test : Bool) (xs : List X) → AllByRecursion (λ x. IsTrue test → P x) xs → IsTrue test → AllByRecursion P xs
-where_all P test [] all passed = tt
-where_all P test (x ∷ xs) all passed = (all.0 passed, where_all P test xs all.1 passed)
+    -- the fault of a continuation is that of the one that is written
+    pub leave_same : leave_fault functions line leave ≡ continuation_fault (numbered functions) line continuation
+    leave_same = by_version _ refl
 
--- the exits of the line at a place are right
-pub record IsRightAt (functions : List Function) (body : BodyView) (place : ℕ) (line : Line) : Type 0 where
-  pub named : AllByRecursion (IsNamed functions []) (continuations_of line.instr)
-  pub land : (count : ℕ) (scope : Scope) → HasScope body count (label_at body.lines place) scope → AllByRecursion (Lands functions []) (continuations_of line.instr)
+  module _ (names : List (List ℕ)) where
+    -- the first fault of an instruction
+    reached_same : (line : RawLine) (scope : Option Scope)
+        → AllByRecursion IsThere (continuations_of (instr_of (outline functions) names line.instr))
+        → reached_fault functions line scope
+        ≡ instr_fault (numbered functions) line.line (instr_of (outline functions) names line.instr) scope
+    reached_same line None named = refl
+    reached_same line (Some scope) named =
+        first_of_zip (leave_fault functions line.line) (continuation_fault (numbered functions) line.line)
+        (IsMade functions) IsThere (leave_same line.line) (leaves line.instr)
+        (continuations_of (instr_of (outline functions) names line.instr)) (each_made functions names line.instr) named
 
--- the exits of the first so many lines are right
-pub record AreRightBelow (functions : List Function) (body : BodyView) (count : ℕ) : Type 0 where
-  pub each : (place : ℕ) (line : Line) → place < count → slice_get body.lines place ≡ Some line → IsRightAt functions body place line
+    -- each line names what is there
+    abbrev NamesItsTargets : Line → Type 0
+    NamesItsTargets line = AllByRecursion IsThere (continuations_of line.instr)
 
-module _ (functions : List Function) (body : BodyView) where
-  -- the exits are right where those of each line are
-  pub HasExits-all : (count : ℕ) → length body.lines ≤ count → AreRightBelow functions body count → HasExits functions [] body
-  HasExits-all count past right = record {
-    named = all_of_places (λ (line : Line). AllByRecursion (IsNamed functions []) (continuations_of line.instr)) body.lines
-        (λ place line at. let within = slice_get_within body.lines place line at in (right.each place line (omega arith) at).named);
-    land = λ number label scope line rest path at.
-        let stands = stands_at body.lines label line rest at.stands in
-        let within = slice_get_within body.lines stands.place line stands.there in
-        (right.each stands.place line (omega arith) stands.there).land number scope
-        (subst (λ (other : List ℕ). HasScope body number other scope) (sym stands.labelled) path);
-  }
+    -- the first fault of lines, of which the first stands at this place
+    abbrev rest : List PlaceState → ℕ → ℕ → List RawLine → Option Fault
+    rest all index number lines = first_fault_of (line_fault (numbered functions) all)
+        (enumerate_from index (zip (lines_of (outline functions) names number lines)
+        (map (λ (line : RawLine). line.line) lines)))
 
-  -- and those of each line are, where the body's are
-  pub right_at : (place : ℕ) (line : Line) → LabelsDiffer body.lines → slice_get body.lines place ≡ Some line → HasExits functions [] body → IsRightAt functions body place line
-  right_at place line differ there exits = record {
-    named = AllByRecursion-found (λ (other : Line). AllByRecursion (IsNamed functions []) (continuations_of other.instr)) body.lines place line exits.named there;
-    land = λ count scope path.
-        let within = slice_get_within body.lines place line there in
-        exits.land count (label_at body.lines place) scope line (drop (place + 1) body.lines) path
-        (record { stands = from_label-first_label-drop body.lines place differ within ∙ drop-slice_get body.lines place line there });
-  }
+    -- it is that of the lines that are written, where these are the places from there on
+    lines_same : (all : List PlaceState) (index number : ℕ) (some : List PlaceState) (lines : List RawLine)
+        → ((k : ℕ) → slice_get all (index + k) ≡ slice_get some k)
+        → AllByRecursion NamesItsTargets (lines_of (outline functions) names number lines)
+        → lines_fault functions some lines
+        ≡ rest all index number lines
+    lines_same all index number [] [] at named = refl
+    lines_same all index number [] (line ∷ lines) at named =
+        let here = at 0 in
+        let behind = lines_same all (index + 1) (suc number) [] lines
+        (λ k. ap (slice_get all) (next index k) ∙ at (suc k)) named.1 in
+        sym (ap (λ scope. or_else (instr_fault (numbered functions) line.line (instr_of (outline functions) names line.instr) scope) (rest all (index + 1) (suc number) lines))
+        (ap place_scope (ap (slice_get all) (sym (none_more index)) ∙ here)) ∙ sym behind)
+    lines_same all index number (place ∷ some) [] at named = refl
+    lines_same all index number (place ∷ some) (line ∷ lines) at named =
+        let here = ap (slice_get all) (sym (none_more index)) ∙ at 0 in
+        let behind = lines_same all (index + 1) (suc number) some lines
+        (λ k. ap (slice_get all) (next index k) ∙ at (suc k)) named.1 in
+        ap (λ it. or_else it (lines_fault functions some lines)) (reached_same line (place_scope (Some place)) named.0)
+        ∙ ap (or_else (instr_fault (numbered functions) line.line (instr_of (outline functions) names line.instr) (place_scope (Some place)))) behind
+        ∙ sym (ap (λ scope. or_else (instr_fault (numbered functions) line.line (instr_of (outline functions) names line.instr) scope) (rest all (index + 1) (suc number) lines))
+        (ap place_scope here))
 
-  -- the exits of a line by whether a path leads to it
-  right_reached : (place : ℕ) (line : Line) (variables : List VarId) → HasInScope body place variables
-      → AllByRecursion (IsRight functions true) (continuations_of line.instr) ↔ IsRightAt functions body place line
-  right_reached place line variables there =
-      let P : Continuation → Type 0 = IsNamed functions [] in
-      let Q : Continuation → Type 0 = λ continuation. IsTrue true → Lands functions [] continuation in
-      let these = continuations_of line.instr in (
-        (λ all. record { named = all_first_of P Q these all; land = λ count scope path. where_all (Lands functions []) true these (all_second_of P Q these all) refl }),
-        λ right. all_both P Q these right.named (all_where (Lands functions []) true these (λ passed. right.land there.count there.scope there.path)),
-      )
+  -- the body of a version with the lines of its instructions
+  abbrev beside : ℕ → RawFunction → RawVersion → Version × List ℕ
+  beside number function version =
+      (version_of (outline functions) number function.parameters version, line_numbers (text_version number function version))
 
-  right_unreached : (place : ℕ) (line : Line) → IsUnreached body place
-      → AllByRecursion (IsRight functions false) (continuations_of line.instr) ↔ IsRightAt functions body place line
-  right_unreached place line none =
-      let P : Continuation → Type 0 = IsNamed functions [] in
-      let Q : Continuation → Type 0 = λ continuation. IsTrue false → Lands functions [] continuation in
-      let these = continuations_of line.instr in (
-        (λ all. record { named = all_first_of P Q these all; land = λ count scope path. absurd (none count scope path) }),
-        λ right. all_both P Q these right.named (all_where (Lands functions []) false these (λ passed. absurd (cc))),
-      )
+  -- the first fault of a version
+  version_same : (number : ℕ) (function : RawFunction) (version : RawVersion)
+      → HasNames functions (text_version number function version)
+      → landing_fault functions (text_version number function version)
+      ≡ version_fault (numbered functions) (beside number function version)
+  version_same number function version names =
+      let text = text_version number function version in
+      lines_same (variables text) (places functions text) 0 0 (places functions text) version.lines
+      (λ k. ap (slice_get (places functions text)) (zero-add k)) names.exits
 
-  -- the same, by whether the body has a scope there
-  pub right_tested : {X : Type 0} (listed : X → List VarId) (place : ℕ) (line : Line) (found : Option X) (reached : Bool) → reached ≡ is_some found
-      → IfSome found (λ x. HasInScope body place (listed x)) → IfNone found (IsUnreached body place)
-      → AllByRecursion (IsRight functions reached) (continuations_of line.instr) ↔ IsRightAt functions body place line
-  right_tested listed place line None reached is some none =
-      subst (λ (test : Bool). AllByRecursion (IsRight functions test) (continuations_of line.instr) ↔ IsRightAt functions body place line) (sym is) (right_unreached place line none)
-  right_tested listed place line (Some x) reached is some none =
-      subst (λ (test : Bool). AllByRecursion (IsRight functions test) (continuations_of line.instr) ↔ IsRightAt functions body place line) (sym is) (right_reached place line (listed x) some)
+  -- of the versions of a function
+  versions_same : (number : ℕ) (function : RawFunction) (versions : List RawVersion)
+      → AllByRecursion (HasNames functions) (map (text_version number function) versions)
+      → first_fault_of (landing_fault functions) (map (text_version number function) versions)
+      ≡ first_fault_of (version_fault (numbered functions))
+      (zip (map (version_of (outline functions) number function.parameters) versions)
+      (map (λ (version : NumberedVersion). version.line_numbers)
+      (map (λ version. numbered_version functions (text_version number function version)) versions)))
+  versions_same number function [] names = refl
+  versions_same number function (version ∷ versions) names =
+      ap (λ it. or_else it (first_fault_of (landing_fault functions) (map (text_version number function) versions)))
+      (version_same number function version names.0)
+      ∙ ap (or_else (version_fault (numbered functions) (beside number function version)))
+      (versions_same number function versions names.1)
 
-  -- one line more
-  pub right_more : (count : ℕ) (line : Line) → slice_get body.lines count ≡ Some line → IsRightAt functions body count line → AreRightBelow functions body count → AreRightBelow functions body (count + 1)
-  right_more count line there here right =
-      let P : ℕ → Type 0 = λ place. (other : Line) → slice_get body.lines place ≡ Some other → IsRightAt functions body place other in
-      let this : P count = λ other at. let same : line ≡ other = cc in subst (IsRightAt functions body count) same here in
-      record { each = λ place other below. below_more P count (λ k lower it. right.each k it lower) this place below other }
-
--- the exits of functions, function by function
-abbrev pub OfFunction : List Function → Function → Type 0
-OfFunction all function = AllByRecursion (λ (version : Version). HasExits all [] version.body) function.versions
-
--- what holds of each function is what is said of all
-pub HaveExits-all : (all functions : List Function) → AllByRecursion (OfFunction all) functions → HaveExits all functions
-HaveExits-all all [] have = tt
-HaveExits-all all (function ∷ functions) have = (have.0, HaveExits-all all functions have.1)
-
--- and the other way round
-pub all-HaveExits : (all functions : List Function) → HaveExits all functions → AllByRecursion (OfFunction all) functions
-all-HaveExits all [] have = tt
-all-HaveExits all (function ∷ functions) have = (have.0, all-HaveExits all functions have.1)
+  -- and of functions
+  pub exits_same : (number : ℕ) (some : List RawFunction)
+      → AllByRecursion (HasNames functions) (text_versions number some)
+      → first_fault_of (landing_fault functions) (text_versions number some)
+      ≡ first_fault_of (function_fault (numbered functions)) (zip (functions_of (outline functions) number some)
+      (map line_numbers_in (numbered_functions functions number some)))
+  exits_same number [] names = refl
+  exits_same number (function ∷ some) names =
+      let parts = (iff_append (HasNames functions) (map (text_version number function) function.versions)
+      (text_versions (suc number) some)).0 names in
+      first_of_append (landing_fault functions) (map (text_version number function) function.versions)
+      (text_versions (suc number) some)
+      ∙ ap (λ it. or_else it (first_fault_of (landing_fault functions) (text_versions (suc number) some)))
+      (versions_same number function function.versions parts.0)
+      ∙ ap (or_else (function_fault (numbered functions)
+      (function_of (outline functions) number function, line_numbers_in (numbered_function functions number function))))
+      (exits_same (suc number) some parts.1)

@@ -1,95 +1,97 @@
--- Where the frames that exits make land.
-use Rattle.std.proofs.Common.{◌≡◌, ◌↔◌, ◌<◌, ◌≤◌, ℕ, Bool, IsTrue, true, false, not, List, [], Option, None, Some, IfSome, length, refl, sym, ap, ◌∙◌, subst}
-use Rattle.std.proofs.lemmas.List.{length-set}
-use Rattle.std.specs.List.{AllByRecursion}
+-- What is found of a continuation, by what is found of its target.
+use Rattle.std.proofs.Common.{◌≡◌, ℕ, Bool, true, false, ◌&&◌, List, [], Option, None, Some, length, refl, sym, ap, ◌∙◌}
+use Rattle.std.specs.Prelude.{if◌then◌else◌}
+use Rattle.sour_syntax.specs.declared.literal.VarId.{VarId}
 use Rattle.sour_syntax.specs.declared.program.Function.{Function}
 use Rattle.sour_syntax.specs.BodyView.{BodyView}
-use Rattle.sour_syntax.specs.declared.literal.VarId.{VarId}
 use Rattle.sour_syntax.specs.Exits.{Continuation, bound_names}
-use Rattle.sour_syntax.specs.Labels.{labels_of, label_at, IsPlaceOf}
-use Rattle.sour_syntax.specs.Scopes.{Scope, members, scope_with, HasScope, HasScopes, HasInScope}
-use Rattle.sour_syntax.specs.Targets.{IsNamed, Lands, named_body, scope_of_names}
-use Rattle.sour_syntax.proofs.Everywhere.{Contains-slice_get}
-use Rattle.sour_syntax.proofs.ScopeLists.{length-HasScope}
-use Rattle.sour_syntax.proofs.Following.{label_at-IsPlaceOf}
-use Rattle.sour_scope.specs.Landings.{AreNames, IsFree, LandsAt, IsRight}
-use Rattle.sour_scope.proofs.MemberLaws.{members-same}
+use Rattle.sour_syntax.specs.Scopes.{Scope}
+use Rattle.sour_syntax.specs.Taking.{same_scope, scope_names}
+use Rattle.sour_syntax.specs.Targets.{named_body, scope_of_names}
+use Rattle.sour_syntax.proofs.ScopeTests.{same_scope-Decides}
+use Rattle.sour_checked.specs.Fault.{Fault, plain, unknown, map_differs}
+use Rattle.sour_checked.specs.Landing.{has_result, scope_without, fits, fit_fault}
+use Rattle.sour_scope.specs.Landings.{names_of, label_scope, IsReached, target_fault, continuation_fault}
+use Rattle.sour_scope.proofs.MaskLaws.{scope_of-members}
 
--- a scope together with a variable says of each variable whether it is in it
-length-scope_with : (waits : Option ℕ) (scope : Scope) → length (scope_with waits scope) ≡ length scope
-length-scope_with None scope = refl
-length-scope_with (Some x) scope = length-set scope x true
+-- two tests of which one fails
+one_fails : (first second : Bool) → (first ≡ true → second ≡ true → ⊥) → (first && second) ≡ false
+one_fails true true not = absurd (not refl refl)
+one_fails true false not = refl
+one_fails false second not = refl
 
--- what has the members of the scope at a place lands there
-pub lands : (body : BodyView) (place : ℕ) (variables : List VarId) (waits : Option ℕ) (names mask : Scope) → body.parameters ≤ length body.variables → length names ≡ length body.variables
-    → HasInScope body place variables → IsFree waits names → mask ≡ scope_with waits names → variables ≡ members 0 mask → LandsAt body (label_at body.lines place) waits names
-lands body place variables waits names mask few each there free marked are =
-    let long : length there.scope ≡ length (scope_with waits names) =
-    length-HasScope body few there.count (label_at body.lines place) there.scope there.path ∙ sym each ∙ sym (length-scope_with waits names) in
-    let same : there.scope ≡ scope_with waits names =
-    members-same 0 there.scope (scope_with waits names) long (sym there.are ∙ are ∙ ap (members 0) marked) in
-    record {
-      count = there.count;
-      path = subst (HasScope body there.count (label_at body.lines place)) same there.path;
-      free = free;
+module _ (functions : List Function) (line : ℕ) (continuation : Continuation) (body : BodyView)
+    (found : named_body functions [] continuation.target.code ≡ Some body) where
+  -- the fault by the scope of the label there
+  abbrev by_scope : Option Scope → Option Fault
+  by_scope scope =
+      fit_fault line body.variables continuation.waits (names_of body.variables (bound_names continuation.binds))
+      (scope_of_names (length body.variables) (bound_names continuation.binds)) scope
+
+  is_by_scope : (scope : Option Scope) → label_scope body continuation.target.label ≡ scope
+      → continuation_fault functions line continuation ≡ by_scope scope
+  is_by_scope scope at = ap (target_fault line continuation) found ∙ ap by_scope at
+
+  -- the label has no scope
+  pub without_scope : label_scope body continuation.target.label ≡ None
+      → continuation_fault functions line continuation ≡ Some (plain unknown line)
+  without_scope none = is_by_scope None none
+
+  -- the label has a scope, in which these variables are
+  module _ (variables : List VarId) (reached : IsReached body (label_scope body continuation.target.label) variables)
+      (count : ℕ) (counted : count ≡ length body.variables) (mapped whole wanted : Scope)
+      (mapped_is : mapped ≡ scope_of_names count (bound_names continuation.binds))
+      (whole_is : whole ≡ scope_of_names count variables)
+      (wanted_is : wanted ≡ scope_without continuation.waits whole) where
+    -- the scope
+    scope_is : whole ≡ reached.scope
+    scope_is =
+        whole_is ∙ ap (λ n. scope_of_names n variables) counted
+        ∙ ap (scope_of_names (length body.variables)) reached.are
+        ∙ scope_of-members (length body.variables) reached.scope reached.long
+
+    -- the scope that the map must have
+    without_is : wanted ≡ scope_without continuation.waits reached.scope
+    without_is = wanted_is ∙ ap (scope_without continuation.waits) scope_is
+
+    -- the fault of a map that doesn't fit
+    abbrev differing : Scope → Fault
+    differing scope = record {
+      kind = map_differs;
+      line = line;
+      first = scope_names body.variables scope;
+      second = names_of body.variables (bound_names continuation.binds);
     }
 
--- what lands at a place has the members of the scope there
-pub lands_back : (body : BodyView) (place : ℕ) (variables : List VarId) (waits : Option ℕ) (names mask : Scope) → HasScopes body
-    → HasInScope body place variables → mask ≡ scope_with waits names → LandsAt body (label_at body.lines place) waits names → variables ≡ members 0 mask
-lands_back body place variables waits names mask scopes there marked at =
-    let same : there.scope ≡ scope_with waits names =
-    scopes.one there.count at.count (label_at body.lines place) there.scope (scope_with waits names) there.path at.path in
-    there.are ∙ ap (members 0) (same ∙ sym marked)
+    -- what is found, by the test whether the map fits
+    by_test : (test : Bool) → (has_result continuation.waits whole && same_scope mapped wanted) ≡ test
+        → continuation_fault functions line continuation ≡ (if test then None else Some (differing wanted))
+    by_test test is =
+        let tested : Bool → Scope → Option Fault = λ t scope. if t then None else Some (differing scope) in
+        let same : scope_of_names (length body.variables) (bound_names continuation.binds) ≡ mapped =
+        sym (mapped_is ∙ ap (λ n. scope_of_names n (bound_names continuation.binds)) counted) in
+        let test_is : fits continuation.waits (scope_of_names (length body.variables) (bound_names continuation.binds)) reached.scope ≡ test =
+        ap (λ (scope : Scope). fits continuation.waits scope reached.scope) same
+        ∙ ap (λ (scope : Scope). has_result continuation.waits scope && same_scope mapped (scope_without continuation.waits reached.scope)) (sym scope_is)
+        ∙ ap (λ (scope : Scope). has_result continuation.waits whole && same_scope mapped scope) (sym without_is) ∙ is in
+        is_by_scope (Some reached.scope) reached.is
+        ∙ ap (λ t. tested t (scope_without continuation.waits reached.scope)) test_is ∙ ap (tested test) (sym without_is)
 
--- a continuation lands in this body
-abbrev pub LandsIn : Continuation → BodyView → Type 0
-LandsIn continuation body =
-    LandsAt body continuation.target.label continuation.waits (scope_of_names (length body.variables) (bound_names continuation.binds))
+    -- the map fits
+    pub where_fits : has_result continuation.waits whole ≡ true → mapped ≡ wanted
+        → continuation_fault functions line continuation ≡ None
+    where_fits has same =
+        by_test true (ap (λ (t : Bool). t && same_scope mapped wanted) has ∙ (same_scope-Decides mapped wanted).1 same)
 
-module _ (functions : List Function) (continuation : Continuation) (body : BodyView) (found : named_body functions [] continuation.target.code ≡ Some body) where
-  -- where it lands is in that body
-  lands_in : Lands functions [] continuation → LandsIn continuation body
-  lands_in lands =
-      let others = lands.found in
-      let same : lands.body ≡ body = cc in
-      subst (LandsIn continuation) same (record { count = lands.count; path = lands.path; free = lands.free })
-
-  -- and the other way round
-  in_lands : LandsIn continuation body → Lands functions [] continuation
-  in_lands lands = record { body = body; found = found; count = lands.count; path = lands.path; free = lands.free }
-
--- a continuation that names what is there, by a place of its label and a count of the variables
-module _ (functions : List Function) (continuation : Continuation) (body : BodyView) (place count : ℕ) (found : Some body ≡ named_body functions [] continuation.target.code)
-    (at : IsPlaceOf body.lines continuation.target.label place) (counted : count ≡ length body.variables) (below : IfSome continuation.waits (λ x. x < count))
-    (names : AreNames count (bound_names continuation.binds)) where
-  -- it names what is there
-  is_named : IsNamed functions [] continuation
-  is_named = record {
-    body = body;
-    found = sym found;
-    label = Contains-slice_get (labels_of body.lines) place continuation.target.label at;
-    names = subst (λ n. AllByRecursion (λ (x : VarId). x.0 < n) (bound_names continuation.binds)) counted names.0;
-    differ = names.1;
-    result = subst (λ n. IfSome continuation.waits (λ x. x < n)) counted below;
-  }
-
-  -- it is right where no path leads to its line
-  pub right_where_unreached : (reached : Bool) → reached ≡ false → IsTrue (not reached) ↔ IsRight functions reached continuation
-  right_where_unreached true un = absurd (cc)
-  right_where_unreached false un = ((λ yes. (is_named, λ no. absurd (cc))), λ right. refl)
-
-  -- and where one does, if it lands
-  pub right_where_reached : (reached answer : Bool) (mask : Scope) → reached ≡ true → mask ≡ scope_of_names count (bound_names continuation.binds)
-      → (IsTrue answer ↔ LandsAt body (label_at body.lines place) continuation.waits mask) → IsTrue answer ↔ IsRight functions reached continuation
-  right_where_reached false answer mask is marked tested = absurd (cc)
-  right_where_reached true answer mask is marked tested =
-      let labelled : label_at body.lines place ≡ continuation.target.label = label_at-IsPlaceOf body.lines continuation.target.label place at in
-      let all : mask ≡ scope_of_names (length body.variables) (bound_names continuation.binds) = marked ∙ ap (λ n. scope_of_names n (bound_names continuation.binds)) counted in
-      let there : LandsAt body (label_at body.lines place) continuation.waits mask → LandsIn continuation body =
-      λ lands. subst (λ (scope : Scope). LandsAt body continuation.target.label continuation.waits scope) all (subst (λ (label : List ℕ). LandsAt body label continuation.waits mask) labelled lands) in
-      let back : LandsIn continuation body → LandsAt body (label_at body.lines place) continuation.waits mask =
-      λ lands. subst (λ (label : List ℕ). LandsAt body label continuation.waits mask) (sym labelled) (subst (λ (scope : Scope). LandsAt body continuation.target.label continuation.waits scope) (sym all) lands) in (
-        (λ yes. (is_named, λ reached. in_lands functions continuation body (sym found) (there (tested.0 yes)))),
-        λ right. tested.1 (back (lands_in functions continuation body (sym found) (right.1 refl))),
-      )
+    -- it doesn't
+    pub where_differs : (first second : List (List ℕ)) → first ≡ scope_names body.variables wanted
+        → second ≡ names_of body.variables (bound_names continuation.binds)
+        → (has_result continuation.waits whole ≡ true → mapped ≡ wanted → ⊥)
+        → continuation_fault functions line continuation
+        ≡ Some (record { kind = map_differs; line = line; first = first; second = second })
+    where_differs first second first_is second_is not =
+        let made : List (List ℕ) → List (List ℕ) → Option Fault =
+        λ a b. Some (record { kind = map_differs; line = line; first = a; second = b }) in
+        by_test false (one_fails _ _ (λ has same. not has ((same_scope-Decides mapped wanted).0 same)))
+        ∙ ap (λ a. made a (names_of body.variables (bound_names continuation.binds))) (sym first_is)
+        ∙ ap (made first) (sym second_is)

@@ -1,5 +1,5 @@
 -- The variables so far, when those of one more part are put behind them.
-use Rattle.std.proofs.Common.{◌≡◌, ℕ, List, [], ◌∷◌, ◌++◌, append_assoc, append-nil, Result, Ok, Err, refl, sym, ap, ◌∙◌}
+use Rattle.std.proofs.Common.{◌≡◌, ℕ, List, [], ◌∷◌, ◌++◌, append_assoc, append-nil, Result, Ok, Err, sym, ap, ◌∙◌}
 use Rattle.std.specs.Result.{OnOk}
 use Rattle.sour_raw.specs.declared.raw.RawExpr.{RawExpr}
 use Rattle.sour_raw.specs.declared.raw.RawLine.{RawLine}

@@ -1,4 +1,10 @@
-pub mod Outline
-pub mod Numbered
-pub mod Checked
+pub mod Bodies
+pub mod InText
+pub mod Joined
+pub mod Known
 pub mod Landings
+pub mod NumberedJob
+pub mod Numbering
+pub mod Outlined
+pub mod OutlinedFunction
+pub mod Told

@@ -1,6 +1,6 @@
 //! A text as a whole.
 
-ghost use Rattle.std.specs.Prelude.{◌≡◌, ◌↔◌, List, length, IfOk, IsErrOf};
+ghost use Rattle.std.specs.Prelude.{◌≡◌, ◌↔◌, List, length, IfOk, IfErr};
 ghost use Rattle.std.specs.List.{AllByRecursion};
 ghost use Rattle.sour_syntax.specs.declared.literal.Literal.{Literal};
 ghost use Rattle.sour_syntax.specs.declared.plan.PlanJob.{PlanJob};
@@ -8,58 +8,52 @@ ghost use Rattle.sour_syntax.specs.Literals.{IsLiteral};
 ghost use Rattle.sour_syntax.specs.Plan.{IsKnownJob};
 ghost use Rattle.sour_syntax.specs.Program.{ProgramView};
 ghost use Rattle.sour_raw.specs.Limits.{IsShort};
+ghost use Rattle.sour_raw.specs.Order.{IsInOrder};
 ghost use Rattle.sour_raw.specs.Written.{IsWritten};
-ghost use Rattle.sour_scope.specs.Checked.{IsChecked};
+ghost use Rattle.sour_checked.specs.Checked.{IsChecked};
+ghost use Rattle.sour_scope.specs.Told.{IsFault};
 
-use crate::exits::exits_are_right;
+use crate::bodies::{Bodies, bodies_of};
+use crate::exits::exits_fit;
 use crate::fault::ScopeFault;
-use crate::functions::{functions_of, names_of};
-use crate::inputs::inputs_of;
-use crate::literals::inputs_are_known;
-use crate::main_function::main_of;
-use crate::naming::outline_of;
-use crate::plan::plan_of;
-use crate::plan_literals::plan_is_known;
+use crate::first_stage::numbered;
+use crate::numbered::NumberedJob;
 use sour_raw::RawJob;
 use sour_syntax::{Job, Program};
 use std::alloc::Global;
 use std::sync::Arc;
 
-/// The program, the plan and the inputs that a text means.
+/// The program, the plan and the inputs that a text means, or its first fault.
 pub fn check(alloc: Global, raw: RawJob) -> Result<Job, ScopeFault>
     requires written { IsWritten raw }
     requires short { IsShort raw }
+    requires ordered { IsInOrder raw }
     // It means this program, this plan and these inputs, and no others.
-    ensures found { IfOk result (λ job. (program : ProgramView) (plan : List PlanJob) (inputs : List (List Literal)) →
-        IsChecked raw program plan inputs ↔ ((program ≡ job.program.value) × (plan ≡ job.plan) × (inputs ≡ job.inputs))) }
+    ensures found { IfOk result (λ job.
+        (program : ProgramView) (plan : List PlanJob) (inputs : List (List Literal))
+        → IsChecked raw program plan inputs
+        ↔ ((program ≡ job.program.value) × (plan ≡ job.plan) × (inputs ≡ job.inputs))) }
     // Each function that the plan names is one of this program.
-    ensures plan { IfOk result (λ job. AllByRecursion (IsKnownJob (length job.program.value.functions)) job.plan) }
+    ensures plan { IfOk result (λ job.
+        AllByRecursion (IsKnownJob (length job.program.value.functions)) job.plan) }
     // Each literal of an input is one of this program.
-    ensures inputs { IfOk result (λ job. AllByRecursion (AllByRecursion (IsLiteral (length job.program.value.functions))) job.inputs) }
-    ensures unplaced { IsErrOf result ScopeFault.Unplaced →
-        (program : ProgramView) (plan : List PlanJob) (inputs : List (List Literal)) → IsChecked raw program plan inputs → ⊥ }
+    ensures inputs { IfOk result (λ job.
+        AllByRecursion (AllByRecursion (IsLiteral (length job.program.value.functions)))
+        job.inputs) }
+    // It has this fault first, and means nothing.
+    ensures fault { IfErr result (IsFault raw) }
 {
-    let Some(names) = names_of(alloc, raw.functions.as_slice())? else {
-        return Err(ScopeFault::Unplaced);
-    };
-    let outline = outline_of(alloc, raw.functions.as_slice(), names)?;
-    let Some(functions) = functions_of(alloc, raw.functions.as_slice(), &outline)? else {
-        return Err(ScopeFault::Unplaced);
-    };
-    if !exits_are_right(alloc, functions.as_slice())? {
-        return Err(ScopeFault::Unplaced);
-    }
-    let Some(main) = main_of(raw.functions.as_slice()) else {
-        return Err(ScopeFault::Unplaced);
-    };
-    let plan = plan_of(alloc, raw.plan.as_slice(), outline.names())?;
-    if !plan_is_known(plan.as_slice(), outline.len()) {
-        return Err(ScopeFault::Unplaced);
-    }
-    let inputs = inputs_of(alloc, raw.inputs.as_slice(), outline.names())?;
-    if !inputs_are_known(inputs.as_slice(), outline.len()) {
-        return Err(ScopeFault::Unplaced);
-    }
+    let NumberedJob {
+        functions,
+        main,
+        plan,
+        inputs,
+    } = numbered(alloc, raw)?;
+    let Bodies {
+        functions,
+        line_numbers,
+    } = bodies_of(alloc, functions)?;
+    exits_fit(alloc, functions.as_slice(), line_numbers.as_slice())?;
     let program = Arc::new(alloc, Program::of_functions(functions, main).linked(alloc)?)?;
     Ok(Job {
         program,

@@ -1,119 +1,141 @@
-//! Whether a frame that an exit makes stands where it may.
+//! Whether a continuation of an exit fits its target.
 
-ghost use Rattle.std.specs.Prelude.{◌≡◌, ◌<◌, ◌↔◌, length, IsTrue, IfOk, IfSome, IfNone};
+ghost use Rattle.std.specs.Prelude.{◌≡◌, true, None, length, slice_get, slice_set};
+ghost use Rattle.std.specs.Prelude.{IfOk, IfSome, IfNone};
 ghost use Rattle.sour_syntax.specs.Exits.{bound_names};
-ghost use Rattle.sour_syntax.specs.Labels.{label_at};
-ghost use Rattle.sour_syntax.specs.Scopes.{members, scope_with};
+ghost use Rattle.sour_syntax.specs.Taking.{place_scope};
 ghost use Rattle.sour_syntax.specs.Targets.{scope_of_names};
-ghost use Rattle.sour_scope.specs.Landings.{AreNames, IsFree, LandsAt, IsRight};
+ghost use Rattle.sour_checked.specs.Landing.{has_result, scope_without};
+ghost use Rattle.sour_scope.specs.Landings.{places_of, names_of, IsReached, label_scope};
+ghost use Rattle.sour_scope.specs.Landings.{continuation_fault};
+ghost use Rattle.sour_scope.specs.Told.{Finds};
 
-use sour_syntax::{Bind, Body, Function, Target, VarId, body_named};
+use crate::fault::{MAP_DIFFERS, ScopeFault, UNKNOWN};
+use sour_syntax::{Bind, Body, Function, Label, List, Names, Target, VarId, body_named, names_of};
 use std::alloc::{AllocError, Global};
 
-/// The marks of so many variables, where those that a map names are marked; none exactly where it
-/// names another, or one twice.
-fn mask_of(alloc: Global, binds: &[Bind], count: usize) -> Result<Option<Vec<bool>>, AllocError>
-    ensures marked { IfOk result (λ found. IfSome found (λ mask. mask.items ≡ scope_of_names count (bound_names binds.now))) }
-    ensures named { IfOk result (λ found. IfSome found (λ mask. AreNames count (bound_names binds.now))) }
-    ensures none { IfOk result (λ found. IfNone found (AreNames count (bound_names binds.now) → ⊥)) }
+/// Puts a variable into a scope that tells of it.
+fn put(variable: VarId, scope: &mut Vec<bool>)
+    ensures { scope.new.items ≡ slice_set scope.old.items variable.0 true }
 {
-    let mut mask = vec![in alloc; false; count]?;
-    for bind in binds {
-        let place = bind.name.0 as usize;
-        if place >= count || mask[place] {
-            return Ok(None);
-        }
-        mask[place] = true;
+    let place = variable.0 as usize;
+    if place < scope.len() {
+        scope[place] = true;
     }
-    Ok(Some(mask))
 }
 
-/// Marks the variable that waits for a result, if one does; false exactly where it is marked or isn't there.
-fn mark_result(waits: Option<u32>, mask: &mut Vec<bool>) -> bool
-    ensures free { IsTrue result ↔ IsFree waits mask.old.items }
-    ensures marked { IsTrue result → mask.new.items ≡ scope_with waits mask.old.items }
+/// The scope of so many variables in which those are that a map names.
+fn mapped_scope(alloc: Global, binds: &[Bind], count: usize) -> Result<Vec<bool>, AllocError>
+    ensures { IfOk result (λ scope. scope.items ≡ scope_of_names count (bound_names binds.now)) }
+{
+    let mut scope = vec![in alloc; false; count]?;
+    for bind in binds {
+        put(bind.name, &mut scope);
+    }
+    Ok(scope)
+}
+
+/// The scope of so many variables in which these are.
+fn scope_of(alloc: Global, variables: &[VarId], count: usize) -> Result<Vec<bool>, AllocError>
+    ensures { IfOk result (λ scope. scope.items ≡ scope_of_names count variables.now) }
+{
+    let mut scope = vec![in alloc; false; count]?;
+    for variable in variables {
+        put(*variable, &mut scope);
+    }
+    Ok(scope)
+}
+
+/// Takes the variable that waits for a result, if one does, out of a scope: whether it was in it.
+fn take_result(waits: Option<u32>, scope: &mut Vec<bool>) -> bool
+    ensures has { result ≡ has_result waits scope.old.items }
+    ensures without { scope.new.items ≡ scope_without waits scope.old.items }
 {
     let Some(variable) = waits else {
         return true;
     };
     let place = variable as usize;
-    if place >= mask.len() || mask[place] {
+    if place >= scope.len() {
         return false;
     }
-    mask[place] = true;
-    true
+    let is_in = scope[place];
+    scope[place] = false;
+    is_in
 }
 
-/// Whether these are the marked variables in ascending order.
-fn is_members(variables: &[VarId], mask: &[bool]) -> bool
-    ensures { IsTrue result ↔ (variables.now ≡ members 0 mask.now) }
+/// The names of the variables that a map names.
+fn mapped_names(alloc: Global, names: &Names, binds: &[Bind]) -> Result<List<Label>, AllocError>
+    ensures { IfOk result (λ list. list ≡ names_of names.now (bound_names binds.now)) }
 {
-    let mut found: usize = 0;
-    for (number, is_in) in mask.iter().enumerate() {
-        if *is_in {
-            if found >= variables.len() || variables[found].0 as usize != number {
-                return false;
-            }
-            found += 1;
+    let mut list = List::new(alloc);
+    for bind in binds {
+        if let Some(name) = names.get(bind.name.0 as usize) {
+            list.push(Label::from_bytes(Vec::from_slice(alloc, name)?))?;
         }
     }
-    found == variables.len()
+    Ok(list)
 }
 
-/// Whether the marked variables, with the one that waits for a result, are those in scope at a place.
-fn lands_at(body: &Body, place: usize, names: Vec<bool>, waits: Option<u32>) -> bool
-    requires there { place < length body.now.lines }
-    requires each { length names.items ≡ length body.now.variables }
-    ensures { IsTrue result ↔ LandsAt body.now (label_at body.now.lines place) waits names.items }
+/// The variables in scope at a place of a body; none exactly where the place has no scope, or there
+/// is no such place.
+pub(crate) fn scope_at_place(body: &Body, place: usize) -> Option<&[VarId]>
+    ensures reached { IfSome result (λ variables. IsReached body.now
+        (place_scope (slice_get (places_of body.now) place)) variables.now) }
+    ensures unreached { IfNone result (place_scope (slice_get (places_of body.now) place) ≡ None) }
 {
-    // What holds of each body: its labels have one scope, and its parameters are among its variables.
+    // What holds of each body: its labels have one scope, and its parameters are among its
+    // variables.
     let lines = body.lines();
     let parameters = body.parameters() as usize;
-    prove!(place < lines.len() && parameters <= body.variables().len());
-    let mut mask = names;
-    if !mark_result(waits, &mut mask) {
-        return false;
-    }
-    match body.scope(place) {
-        Some(variables) => is_members(variables, mask.as_slice()),
-        None => false,
+    prove!(parameters <= body.variables().len());
+    if place < lines.len() {
+        body.scope(place)
+    } else {
+        None
     }
 }
 
-/// Whether the variable that waits for a result, if one does, is one of so many.
-fn is_below(waits: Option<u32>, count: usize) -> bool
-    ensures { IsTrue result ↔ IfSome waits (λ x. x < count) }
+/// The variables in scope at a label of a body; none exactly where the label has no scope, or there
+/// is no such label.
+fn scope_at_label<'a>(body: &'a Body, label: &Label) -> Option<&'a [VarId]>
+    ensures reached { IfSome result (λ variables. IsReached body.now
+        (label_scope body.now label.now) variables.now) }
+    ensures unreached { IfNone result (label_scope body.now label.now ≡ None) }
 {
-    match waits {
-        Some(variable) => (variable as usize) < count,
-        None => true,
-    }
+    let place = body.place(label).unwrap_or(body.lines().len());
+    scope_at_place(body, place)
 }
 
-/// Whether a frame with this target, map and waiting variable names what is there, and fits the scope
-/// there if a path leads to its line.
-pub(crate) fn continuation_is_right(
+/// Whether a continuation on a line with this target, map and waiting variable fits the scope of
+/// its target.
+pub(crate) fn continuation_fits(
     alloc: Global,
     functions: &[Function],
+    line: u64,
     target: &Target,
     binds: &[Bind],
     waits: Option<u32>,
-    reached: bool,
-) -> Result<bool, AllocError>
-    ensures { IfOk result (λ right. IsTrue right ↔ IsRight functions.now reached (record { target = target.now; binds = binds.now; waits = waits })) }
+) -> Result<(), ScopeFault>
+    ensures { Finds (continuation_fault functions.now line
+        (record { target = target.now; binds = binds.now; waits = waits })) result }
 {
     let Some(body) = body_named(functions, target.code) else {
-        return Ok(false);
+        return Err(ScopeFault::plain(alloc, UNKNOWN, line));
     };
-    let Some(place) = body.place(&target.label) else {
-        return Ok(false);
+    let Some(variables) = scope_at_label(body, &target.label) else {
+        return Err(ScopeFault::plain(alloc, UNKNOWN, line));
     };
-    let count = body.variables().len();
-    if !is_below(waits, count) {
-        return Ok(false);
+    let names = body.variables();
+    let count = names.len();
+    let mapped = mapped_scope(alloc, binds, count)?;
+    let mut wanted = scope_of(alloc, variables, count)?;
+    if take_result(waits, &mut wanted) && mapped == wanted {
+        return Ok(());
     }
-    let Some(names) = mask_of(alloc, binds, count)? else {
-        return Ok(false);
-    };
-    Ok(!reached || lands_at(body, place, names, waits))
+    Err(ScopeFault::At {
+        kind: MAP_DIFFERS,
+        line,
+        first: names_of(alloc, names, wanted.as_slice())?,
+        second: mapped_names(alloc, names, binds)?,
+    })
 }

@@ -11,26 +11,33 @@
 //! there is a function `main`, without parameters. The labels and the variables that a plan names aren't looked at.
 #![tactic(auto)]
 
+mod bodies;
 mod exit_numbers;
 mod exits;
 mod expression_lists;
 mod expressions;
 mod fault;
+mod first_stage;
+mod function_outline;
 mod functions;
 mod inputs;
 mod instructions;
 mod job;
+mod joining;
 mod landings;
 mod lines;
-mod literals;
 mod main_function;
 mod names;
-mod naming;
+mod numbered;
+mod numbers;
 mod outline;
+mod outlining;
 mod plan;
-mod plan_literals;
+mod repeats;
+mod unnumbered;
 mod variables;
-mod versions;
+mod version_lines;
+mod version_outline;
 
 pub use fault::ScopeFault;
 pub use job::check;

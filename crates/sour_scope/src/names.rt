@@ -1,24 +1,17 @@
 //! Names, and their numbers.
 
-ghost use Rattle.std.specs.Prelude.{◌≡◌, ◌≢◌, ◌<◌, ◌≤◌, ◌+◌, ◌^◌, ◌↔◌, ℕ, List, [], ◌∷◌, ◌++◌, length, IsTrue, IfOk, OnOk};
+ghost use Rattle.std.specs.Prelude.{◌≡◌, ◌≢◌, ◌++◌, ◌∷◌, [], ◌↔◌, IsTrue, IfOk, OnOk, OnErr};
 ghost use Rattle.std.specs.Bool.{OnTrue};
-ghost use Rattle.std.specs.List.{AllByRecursion, position_or_len};
-ghost use Rattle.std.specs.Str.{bytes_eq};
-ghost use Rattle.sour_syntax.specs.Program.{NamesDiffer};
+ghost use Rattle.std.specs.List.{AllByRecursion};
 ghost use Rattle.sour_raw.specs.Mentions.{with_name};
-ghost use Rattle.sour_scope.specs.Outline.{function_number};
-ghost use Rattle.sour_scope.specs.Numbered.{number_of};
+ghost use Rattle.sour_checked.specs.Numbered.{number_of};
+ghost use Rattle.sour_scope.specs.Known.{IsAmong};
 
-use sour_syntax::{FunId, Label, Names, VarId};
+use crate::unnumbered::Unnumbered;
+use indexmap::IndexSet;
+use sour_syntax::{Label, Names, VarId};
 use std::alloc::{AllocError, Global};
 use std::marker::Model;
-
-/// A name with the same bytes.
-pub(crate) fn copy_of(alloc: Global, name: &Label) -> Result<Label, AllocError>
-    ensures { IfOk result (λ copy. copy ≡ name.now) }
-{
-    Ok(Label::from_bytes(Vec::from_slice(alloc, name.as_bytes())?))
-}
 
 /// Names, no two of them the same, in the order in which they were put. Contracts see the list of their
 /// bytes, and there are fewer of them than numbers.
@@ -51,37 +44,16 @@ impl DistinctNames {
         }
     }
 
-    /// How many names there are.
-    pub(crate) fn len(&self) -> usize
-        ensures { result ≡ length self.now }
-    {
-        self.names.len()
-    }
-
-    /// The place of a name; where it isn't there it is how many names there are.
-    fn place(&self, name: &Label) -> u32
-        ensures { result ≡ position_or_len (bytes_eq name.now) self.now }
+    /// The number of a name, which is unknown exactly where it isn't there.
+    pub(crate) fn number(&self, name: &Label) -> Result<VarId, Unnumbered>
+        ensures ok { IfOk result (λ number. number ≡ number_of self.now name.now) }
+        ensures known { OnOk result (IsAmong self.now name.now) }
+        ensures unknown { OnErr result (IsAmong self.now name.now → ⊥) }
     {
         match self.names.place(name.as_bytes()) {
-            Some(place) => place as u32,
-            None => self.names.len() as u32,
+            Some(place) => Ok(VarId(place as u32)),
+            None => Err(Unnumbered::Unknown),
         }
-    }
-
-    /// The number of the function with this name, where the names are those of the functions. Where no
-    /// function has it the number is how many there are.
-    pub(crate) fn function(&self, name: &Label) -> FunId
-        ensures { result ≡ function_number self.now name.now }
-    {
-        FunId(self.place(name))
-    }
-
-    /// The number of the variable with this name, where the names are those of the variables. Where no
-    /// variable has it the number is how many there are.
-    pub(crate) fn number(&self, name: &Label) -> VarId
-        ensures { result ≡ number_of self.now name.now }
-    {
-        VarId(self.place(name))
     }
 
     /// Puts a name behind the others where it isn't there yet. With as many names as there are numbers
@@ -97,18 +69,6 @@ impl DistinctNames {
         Ok(())
     }
 
-    /// Puts a name behind the others, and says whether it wasn't there before.
-    pub(crate) fn add(&mut self, alloc: Global, name: &Label) -> Result<bool, AllocError>
-        requires { length self.old + 1 < 2 ^ 32 }
-        ensures whether { IfOk result (λ new. IsTrue new ↔ AllByRecursion (λ other. other ≢ name.now) self.old) }
-        ensures put { IfOk result (λ new. OnTrue new (self.new ≡ self.old ++ name.now ∷ [])) }
-    {
-        let count = self.names.len();
-        let copy = Vec::from_slice(alloc, name.as_bytes())?;
-        let number = self.names.add(copy)?;
-        Ok(number.0 as usize == count)
-    }
-
     /// The names alone.
     pub(crate) fn into_names(self) -> Names
         ensures { result ≡ self }
@@ -118,16 +78,40 @@ impl DistinctNames {
     }
 }
 
-/// Whether no two of the names are the same.
-pub(crate) fn are_distinct(alloc: Global, names: &[Label]) -> Result<bool, AllocError>
-    requires { length names.now < 2 ^ 32 }
-    ensures { IfOk result (λ distinct. IsTrue distinct ↔ NamesDiffer names.now) }
-{
-    let mut seen = DistinctNames::new(alloc);
-    for name in names {
-        if !seen.add(alloc, name)? {
-            return Ok(false);
+/// Names that were seen, no two of them the same. Contracts see the list of their bytes.
+#[derive(Drop)]
+pub(crate) struct Seen<'a> {
+    names: IndexSet<&'a [u8]>,
+}
+
+impl<'a> Model for Seen<'a> {
+    ghost use Rattle.std.specs.Prelude.{List, ℕ, map};
+    ghost use Rattle.std.specs.Coded.{coded_list, coded_ℕ};
+
+    ghost Value = { List (List ℕ) };
+
+    ghost coded = { coded_list (coded_list coded_ℕ) };
+
+    ghost view = { λ seen. map (λ name. name.now) seen.names.keys };
+}
+
+impl<'a> Seen<'a> {
+    /// No names. It takes no memory.
+    pub(crate) fn new(alloc: Global) -> Seen<'a>
+        ensures { result ≡ [] }
+    {
+        Seen {
+            names: IndexSet::new(alloc),
         }
     }
-    Ok(true)
+
+    /// Puts a name behind the others, and says whether it wasn't there before.
+    pub(crate) fn add(&mut self, name: &'a [u8]) -> Result<bool, AllocError>
+        ensures whether { IfOk result (λ is_new. IsTrue is_new ↔ AllByRecursion (λ other.
+            other ≢ name.now) self.old) }
+        ensures put { IfOk result (λ is_new. OnTrue is_new (self.new ≡ self.old ++ name.now ∷ [])) }
+    {
+        let is_new = self.names.insert(name)?;
+        Ok(is_new)
+    }
 }

@@ -1,117 +1,108 @@
-//! The names of a whole text, which places name.
+//! What is known of a text before it is gone through.
 
-ghost use Rattle.std.specs.Prelude.{◌≡◌, ◌≤◌, length, slice_get};
-ghost use Rattle.std.specs.List.{AllByRecursion};
-ghost use Rattle.sour_scope.specs.Outline.{own_names, version_number, versions_at, variables_at, variables_in, HasFewVersions};
-ghost use Rattle.sour_scope.specs.Numbered.{number_of};
+ghost use Rattle.std.specs.Prelude.{◌≡◌, ◌<◌, ◌≤◌, None, Some, length, slice_get, IfOk, OnOk};
+ghost use Rattle.std.specs.Prelude.{OnErr};
+ghost use Rattle.std.specs.Option.{option_copied};
+ghost use Rattle.sour_checked.specs.Outline.{function_number, place_function, place_version};
+ghost use Rattle.laws_scope.specs.TextOrder.{stands_before as named_before};
+ghost use Rattle.sour_scope.specs.Known.{IsAmong};
+ghost use Rattle.sour_scope.specs.Numbering.{number_among, IsNumbering};
+ghost use Rattle.sour_scope.specs.Outlined.{function_names, version_names, names_of, version_at};
 
-use crate::names::DistinctNames;
-use sour_syntax::{FunId, Label, List, VarId};
+use crate::function_outline::FunctionOutline;
+use crate::numbers::Numbers;
+use crate::unnumbered::Unnumbered;
+use crate::version_outline::VersionOutline;
+use sour_raw::RawPlace;
+use sour_syntax::{FunId, Label, List};
 use std::marker::Model;
 
-/// The name of a version, and those of its variables.
-#[derive(Drop)]
-pub(crate) struct VersionNames {
-    pub(crate) name: Label,
-    pub(crate) variables: DistinctNames,
-}
-
-/// The name of a function, and those of its versions.
-#[derive(Drop)]
-pub(crate) struct FunctionNames {
-    pub(crate) name: Label,
-    pub(crate) versions: List<VersionNames>,
-}
-
-/// The names of the functions of a text, no two of which are the same, with those of their versions and
-/// the variables of these. Contracts see the list of what is known of each function. A function has so
-/// few versions that a name is looked for among them one by one.
+/// The functions of a text, found by their names. Contracts see the list of what is known of each.
 #[derive(Drop)]
 pub(crate) struct Outline {
-    names: DistinctNames,
-    functions: List<FunctionNames>,
+    numbers: Numbers,
+    functions: List<FunctionOutline>,
 }
 
 impl Model for Outline {
-    ghost use Rattle.std.specs.Prelude.{◌≡◌, ◌≤◌, List as Listed, length};
-    ghost use Rattle.std.specs.List.{AllByRecursion};
-    ghost use Rattle.sour_scope.specs.declared.outline.FunctionNames.{FunctionNames};
-    ghost use Rattle.sour_scope.specs.Outline.{own_names, HasFewVersions};
+    ghost use Rattle.std.specs.Prelude.{List as Listed};
+    ghost use Rattle.sour_scope.specs.OutlinedFunction.{OutlinedFunction};
 
-    ghost Value = { Listed FunctionNames };
+    ghost Value = { Listed OutlinedFunction };
+
+    ghost use Rattle.sour_scope.specs.Numbering.{IsNumbering};
+    ghost use Rattle.sour_scope.specs.Outlined.{function_names};
 
     ghost view = { λ outline. outline.functions };
 
-    ghost invariant = { λ outline. (outline.names ≡ own_names outline.functions) × AllByRecursion HasFewVersions outline.functions };
+    ghost invariant = { λ outline. IsNumbering outline.numbers (function_names outline.functions) };
 }
 
 impl Outline {
-    /// The outline of these functions, whose names are these. It takes no memory.
-    pub(crate) fn of_functions(names: DistinctNames, functions: List<FunctionNames>) -> Outline
-        requires named { names ≡ own_names functions }
-        requires few { AllByRecursion HasFewVersions functions }
+    /// The outline of these functions, whose names have these numbers. It takes no memory.
+    pub(crate) fn of_functions(numbers: Numbers, functions: List<FunctionOutline>) -> Outline
+        requires { IsNumbering numbers (function_names functions) }
         ensures { result ≡ functions }
     {
-        Outline { names, functions }
+        Outline { numbers, functions }
     }
 
-    /// How many functions there are.
-    pub(crate) fn len(&self) -> usize
-        ensures { result ≡ length self.now }
+    /// The number of the first function of this name, which is unknown exactly where none has it.
+    pub(crate) fn function(&self, name: &[u8]) -> Result<FunId, Unnumbered>
+        ensures ok { IfOk result (λ number.
+            number ≡ function_number (function_names self.now) name.now) }
+        ensures known { OnOk result (IsAmong (function_names self.now) name.now) }
+        ensures unknown { OnErr result (IsAmong (function_names self.now) name.now → ⊥) }
     {
-        self.functions.len()
-    }
-
-    /// The names of the functions.
-    pub(crate) fn names(&self) -> &DistinctNames
-        ensures { result.now ≡ own_names self.now }
-    {
-        &self.names
-    }
-
-    /// The number of a version of the function that has this number. Where it has none of this name it
-    /// is how many there are.
-    pub(crate) fn version(&self, function: FunId, name: &Label) -> u32
-        ensures { result ≡ version_number (versions_at self.now function.0) name.now }
-    {
-        match self.functions.get(function.0 as usize) {
-            Some(function) => version_place(function.versions.as_slice(), name),
-            None => 0,
+        match self.numbers.get(name) {
+            Some(number) => Ok(FunId(number)),
+            None => Err(Unnumbered::Unknown),
         }
     }
 
-    /// The number of a variable of a version of the function that has this number. Where it has none of
-    /// this name it is how many there are.
-    pub(crate) fn variable(&self, function: FunId, version: u32, name: &Label) -> VarId
-        ensures { result ≡ number_of (variables_at self.now function.0 version) name.now }
+    /// Whether a function before the one that has this number has this name.
+    pub(crate) fn stands_before(&self, name: &Label, number: usize) -> bool
+        requires { number ≤ length self.now }
+        ensures { result ≡ named_before (function_names self.now) name.now number }
     {
-        match self.functions.get(function.0 as usize) {
-            Some(function) => version_variable(&function.versions, version, name),
-            None => VarId(0),
+        self.numbers.stands_before(name.as_bytes(), number)
+    }
+
+    /// The function that has this number.
+    pub(crate) fn get(&self, number: usize) -> Option<&FunctionOutline>
+        ensures { option_copied result ≡ slice_get self.now number }
+    {
+        self.functions.get(number)
+    }
+
+    /// The version that a place names, with the numbers of its function and of itself; it is unknown
+    /// exactly where it isn't there.
+    pub(crate) fn version(
+        &self,
+        place: &RawPlace,
+    ) -> Result<(FunId, u32, &VersionOutline), Unnumbered>
+        ensures function { IfOk result (λ found.
+            found.0 ≡ place_function (names_of self.now) place.now) }
+        ensures version { IfOk result (λ found.
+            found.1 ≡ place_version (names_of self.now) place.now) }
+        ensures found { IfOk result (λ found. version_at self.now place.now ≡ Some found.2.now) }
+        ensures unknown { OnErr result (version_at self.now place.now ≡ None) }
+    {
+        let function = self.function(place.function.as_bytes())?;
+        let Some(versions) = self.functions.get(function.0 as usize) else {
+            return Err(Unnumbered::Unknown);
+        };
+        match versions.version(&place.version) {
+            Some((number, version)) => Ok((function, number, version)),
+            None => Err(Unnumbered::Unknown),
         }
     }
-}
 
-/// The number of the version with this name; where none has it it is how many there are.
-fn version_place(versions: &[VersionNames], name: &Label) -> u32
-    requires { length versions.now ≤ 16 }
-    ensures { result ≡ version_number versions.now name.now }
-{
-    for (place, version) in versions.iter().enumerate() {
-        if version.name.is_same(name) {
-            return place as u32;
-        }
-    }
-    versions.len() as u32
-}
-
-/// The number of the variable with this name in the version with this number; where there is no such
-/// variable it is how many there are.
-fn version_variable(versions: &List<VersionNames>, version: u32, name: &Label) -> VarId
-    ensures { result ≡ number_of (variables_in (slice_get versions.now version)) name.now }
-{
-    match versions.get(version as usize) {
-        Some(version) => version.variables.number(name),
-        None => VarId(0),
+    /// The functions alone.
+    pub(crate) fn into_functions(self) -> List<FunctionOutline>
+        ensures { result ≡ self }
+    {
+        let Outline { functions, .. } = self;
+        functions
     }
 }

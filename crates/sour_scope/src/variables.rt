@@ -1,7 +1,9 @@
 //! The variables of a version, by their names.
 
 ghost use Rattle.std.specs.Prelude.{◌≡◌, ◌∷◌, ◌++◌, IfOk, OnOk};
-ghost use Rattle.sour_raw.specs.Mentions.{simple_names, expr_names, each_names, map_names, extra_names, all_names, exit_names, instr_names, with_names, with_lines, variables_of};
+ghost use Rattle.sour_raw.specs.Mentions.{simple_names, expr_names, each_names, map_names};
+ghost use Rattle.sour_raw.specs.Mentions.{extra_names, all_names, exit_names, instr_names};
+ghost use Rattle.sour_raw.specs.Mentions.{with_names, with_lines, variables_of};
 
 use crate::names::DistinctNames;
 use sour_raw::{RawBind, RawExit, RawExpr, RawExtra, RawInstr, RawLine, RawSimple};
@@ -85,7 +87,8 @@ fn put_call(
     arguments: &[RawExpr],
     names: &mut DistinctNames,
 ) -> Result<(), AllocError>
-    ensures { OnOk result (names.new ≡ with_names names.old (name.now ∷ simple_names callee.now ++ each_names arguments.now)) }
+    ensures { OnOk result (names.new
+        ≡ with_names names.old (name.now ∷ simple_names callee.now ++ each_names arguments.now)) }
 {
     names.put(alloc, name)?;
     put_simple(alloc, callee, names)?;
@@ -101,7 +104,8 @@ fn put_store(
     value: &RawExpr,
     names: &mut DistinctNames,
 ) -> Result<(), AllocError>
-    ensures { OnOk result (names.new ≡ with_names names.old (name.now ∷ simple_names index.now ++ expr_names value.now)) }
+    ensures { OnOk result (names.new
+        ≡ with_names names.old (name.now ∷ simple_names index.now ++ expr_names value.now)) }
 {
     names.put(alloc, name)?;
     put_simple(alloc, index, names)?;

@@ -1,42 +1,10 @@
 -- The jumps of some lines, one after another.
-use Rattle.std.proofs.Common.{◌≡◌, ℕ, zero, suc, ◌+◌, ◌<◌, List, [], ◌∷◌, ◌++◌, Some, Contains, length, take, get_or, slice_get, refl, sym, ap, subst}
-use Rattle.std.specs.List.{AllByRecursion}
+use Rattle.std.proofs.Common.{◌≡◌, ℕ, zero, suc, ◌+◌, ◌<◌, List, [], ◌∷◌, ◌++◌, Some, length, take, get_or, slice_get, refl, sym, ap, subst}
 use Rattle.std.proofs.lemmas.Option.{get_or_from_slice_get}
-use Rattle.sour_syntax.specs.declared.instruction.Instr.{Instr}
-use Rattle.sour_syntax.specs.declared.instruction.Instr.TheVariants.{Var, Drop, Assign, ArrayLength, ArrayList, Store, Print, Read, Branch, Goto, Call, Return, Stop, Assume}
 use Rattle.sour_syntax.specs.declared.instruction.Line.{Line}
 use Rattle.sour_syntax.specs.declared.jump.Jump.{Jump}
-use Rattle.sour_syntax.specs.Labels.{labels_of}
-use Rattle.sour_syntax.proofs.Everywhere.{Contains-slice_get, take_next}
-use Rattle.sour_syntax.specs.Jumps.{named_labels, GoesAmong, GoesTo, GoTo, NamesItsLabels}
-
--- an instruction that goes somewhere among some labels names no others
-names_its : (labels : List (List ℕ)) (instr : Instr) (jump : Jump) → GoesAmong labels instr jump → AllByRecursion (Contains labels) (named_labels instr)
-names_its labels (Var x e) jump goes = tt
-names_its labels (Drop x) jump goes = tt
-names_its labels (Assign x e) jump goes = tt
-names_its labels (ArrayLength x e) jump goes = tt
-names_its labels (ArrayList x es) jump goes = tt
-names_its labels (Store x i e) jump goes = tt
-names_its labels (Print e) jump goes = tt
-names_its labels (Read x) jump goes = tt
-names_its labels (Branch e a b) jump goes = (Contains-slice_get labels jump.first a goes.0, (Contains-slice_get labels jump.second b goes.1, tt))
-names_its labels (Goto a) jump goes = (Contains-slice_get labels jump.first a goes, tt)
-names_its labels (Call x callee es) jump goes = tt
-names_its labels (Return e) jump goes = tt
-names_its labels Stop jump goes = tt
-names_its labels (Assume es exit) jump goes = tt
-
--- some of the lines, each of which goes somewhere, name no labels but those of the lines
-name_theirs : (lines some : List Line) (jumps : List Jump) → GoTo lines some jumps → AllByRecursion (λ (line : Line). AllByRecursion (Contains (labels_of lines)) (named_labels line.instr)) some
-name_theirs lines [] [] go = tt
-name_theirs lines [] (jump ∷ jumps) go = absurd go
-name_theirs lines (line ∷ some) [] go = absurd go
-name_theirs lines (line ∷ some) (jump ∷ jumps) go = (names_its (labels_of lines) line.instr jump go.0, name_theirs lines some jumps go.1)
-
--- lines that go somewhere name their labels
-pub NamesItsLabels-GoTo : (lines : List Line) (jumps : List Jump) → GoTo lines lines jumps → NamesItsLabels lines
-NamesItsLabels-GoTo lines jumps go = name_theirs lines lines jumps go
+use Rattle.sour_syntax.proofs.Everywhere.{take_next}
+use Rattle.sour_syntax.specs.Jumps.{GoesTo, GoTo}
 
 -- the jump of one more line comes behind those of the others
 goto_push : (lines some : List Line) (line : Line) (jumps : List Jump) (jump : Jump) → GoTo lines some jumps → GoesTo lines line.instr jump → GoTo lines (some ++ line ∷ []) (jumps ++ jump ∷ [])

@@ -8,7 +8,7 @@ use Rattle.sour_syntax.specs.Terminator.{IsTerminator, EndsInTerminator}
 use Rattle.sour_syntax.specs.Labels.{LabelsDiffer, from_label, first_label}
 
 -- no line from a place on has a label that no line has
-first_label-drop-differs : (label : List ℕ) (lines : List Line) (place : ℕ) → AllByRecursion (λ other. other.label ≢ label) lines → place < length lines → first_label (drop place lines) ≢ label
+pub first_label-drop-differs : (label : List ℕ) (lines : List Line) (place : ℕ) → AllByRecursion (λ other. other.label ≢ label) lines → place < length lines → first_label (drop place lines) ≢ label
 first_label-drop-differs label [] place differ within = absurd (omega arith)
 first_label-drop-differs label (line ∷ lines) zero differ within = differ.0
 first_label-drop-differs label (line ∷ lines) (suc place) differ within =

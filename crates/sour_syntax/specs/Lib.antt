@@ -7,6 +7,8 @@ pub mod Exits
 pub mod Terminator
 pub mod Jumps
 pub mod Scopes
+pub mod Taking
+pub mod Spread
 pub mod Body
 pub mod Literals
 pub mod Targets
@@ -14,4 +16,3 @@ pub mod ExitPlaces
 pub mod Limits
 pub mod Program
 pub mod Plan
-pub mod Spread

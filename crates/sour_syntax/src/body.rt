@@ -1,21 +1,23 @@
-ghost use Rattle.std.specs.Prelude.{◌≡◌, ◌≤◌, ◌<◌, ◌↔◌, ℕ, Some, length, IfOk, IfSome, IfNone};
-ghost use Rattle.sour_syntax.specs.Labels.{LabelsDiffer, IsPlaceOf};
+ghost use Rattle.std.specs.Prelude.{◌≡◌, ◌≤◌, ◌<◌, ◌↔◌, ℕ, Some, length, IfOk, IfErr, OnOk, IfSome, IfNone};
+ghost use Rattle.sour_syntax.specs.Labels.{LabelsDiffer, IsPlaceOf, labels_of};
 ghost use Rattle.sour_syntax.specs.Terminator.{EndsInTerminator};
 ghost use Rattle.sour_syntax.specs.Jumps.{NamesItsLabels, GoTo};
 ghost use Rattle.sour_syntax.specs.Scopes.{HasScopes, HasInScope, IsUnreached, MentionsItsVariables};
-ghost use Rattle.sour_syntax.specs.Body.{IsBody};
+ghost use Rattle.sour_syntax.specs.Body.{IsWellFormed, IsBody};
+ghost use Rattle.sour_syntax.specs.Taking.{HasNoBodyFault, IsFirstBodyFault};
 
+use crate::body_fault::BodyFault;
 use crate::instruction::Line;
 use crate::jump::Jump;
 use crate::jump_places::jumps_of;
 use crate::label::Label;
-use crate::label_places::LabelPlaces;
+use crate::labels::Labels;
 use crate::list::List;
 use crate::literal::{FunId, VarId};
 use crate::names::Names;
 use crate::parts::Parts;
 use crate::scope_lists::lists_of;
-use crate::scope_table::scopes_of;
+use crate::taking::taken_places;
 use std::alloc::{AllocError, Global};
 use std::marker::Model;
 
@@ -24,7 +26,7 @@ use std::marker::Model;
 #[derive(Drop)]
 pub struct Body {
     parts: Parts,
-    labels: LabelPlaces,
+    labels: Labels,
     /// For each place, where its instruction goes by name.
     jumps: List<Jump>,
     /// For each place the variables in scope there, or nothing where no path leads there.
@@ -39,7 +41,8 @@ impl Model for Body {
 
     ghost view = { λ body. body.parts };
 
-    ghost invariant = { λ body. IsBody body.parts × Keeps body.parts body.labels body.jumps body.scopes };
+    ghost invariant = { λ body. IsBody body.parts
+        × Keeps body.parts body.labels body.jumps body.scopes };
 }
 
 impl Body {
@@ -52,23 +55,58 @@ impl Body {
         variables: Names,
         lines: List<Line>,
     ) -> Result<Body, AllocError>
-        requires { IsBody (record { function = function; parameters = parameters; variables = variables; lines = lines }) }
-        ensures { IfOk result (λ body. body ≡ record { function = function; parameters = parameters; variables = variables; lines = lines }) }
+        requires { IsBody (record {
+          function = function;
+          parameters = parameters;
+          variables = variables;
+          lines = lines;
+        }) }
+        ensures { IfOk result (λ body. body ≡ record {
+          function = function;
+          parameters = parameters;
+          variables = variables;
+          lines = lines;
+        }) }
     {
-        let body = Body::checked(alloc, function, parameters, variables, lines)?;
-        Ok(body.unwrap())
+        let labels = Labels::of_lines(alloc, lines.as_slice())?;
+        let checked = Body::checked(alloc, function, parameters, variables, labels, lines)?;
+        Ok(checked.unwrap())
     }
 
-    /// The body of these parts, where they are those of a body; `None` exactly where they aren't.
+    /// The body of these parts, whose lines have these labels; or the first fault of its scopes.
     pub fn checked(
         alloc: Global,
         function: FunId,
         parameters: u32,
         variables: Names,
+        labels: Labels,
         lines: List<Line>,
-    ) -> Result<Option<Body>, AllocError>
-        ensures some { IfOk result (λ found. IfSome found (λ body. body ≡ record { function = function; parameters = parameters; variables = variables; lines = lines })) }
-        ensures none { IfOk result (λ found. IfNone found (IsBody (record { function = function; parameters = parameters; variables = variables; lines = lines }) → ⊥)) }
+    ) -> Result<Result<Body, BodyFault>, AllocError>
+        requires form { IsWellFormed (record {
+          function = function;
+          parameters = parameters;
+          variables = variables;
+          lines = lines;
+        }) }
+        requires labels { labels ≡ labels_of lines }
+        ensures body { IfOk result (λ checked. IfOk checked (λ body. body ≡ record {
+          function = function;
+          parameters = parameters;
+          variables = variables;
+          lines = lines;
+        })) }
+        ensures faultless { IfOk result (λ checked. OnOk checked (HasNoBodyFault (record {
+          function = function;
+          parameters = parameters;
+          variables = variables;
+          lines = lines;
+        }))) }
+        ensures fault { IfOk result (λ checked. IfErr checked (IsFirstBodyFault (record {
+          function = function;
+          parameters = parameters;
+          variables = variables;
+          lines = lines;
+        }))) }
     {
         let parts = Parts {
             function,
@@ -76,20 +114,13 @@ impl Body {
             variables,
             lines,
         };
-        if !parts.is_plain() {
-            return Ok(None);
-        }
-        let Some(labels) = LabelPlaces::of_lines(alloc, parts.lines())? else {
-            return Ok(None);
+        let jumps = jumps_of(alloc, parts.lines(), &labels)?;
+        let places = match taken_places(alloc, &parts, jumps.as_slice())? {
+            Ok(places) => places,
+            Err(fault) => return Ok(Err(fault)),
         };
-        let Some(jumps) = jumps_of(alloc, parts.lines(), &labels)? else {
-            return Ok(None);
-        };
-        let Some(table) = scopes_of(alloc, &parts, jumps.as_slice())? else {
-            return Ok(None);
-        };
-        let scopes = lists_of(alloc, table.rows.as_slice())?;
-        Ok(Some(Body {
+        let scopes = lists_of(alloc, &parts.variables, places.as_slice())?;
+        Ok(Ok(Body {
             parts,
             labels,
             jumps,

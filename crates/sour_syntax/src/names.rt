@@ -1,5 +1,6 @@
 ghost use Rattle.std.specs.Prelude.{◌≡◌, ◌≢◌, ◌^◌, ◌<◌, ◌≤◌, [], Some, length, slice_get, IfOk, OnErr, IfSome, IfNone};
 ghost use Rattle.std.specs.List.{AllByRecursion};
+ghost use Rattle.std.specs.Option.{option_copied};
 ghost use Rattle.sour_syntax.specs.Names.{Numbers};
 
 use crate::literal::VarId;
@@ -43,6 +44,14 @@ impl Names {
         ensures few { result ≤ 2 ^ 32 }
     {
         self.names.len()
+    }
+
+    /// The name at a place, counted from 0, if there is one.
+    pub fn get(&self, place: usize) -> Option<&[u8]>
+        ensures { option_copied result ≡ slice_get self.now place }
+    {
+        let name = self.names.get_index(place)?;
+        Some(name.as_slice())
     }
 
     /// The place of a name, counted from 0; none exactly where it isn't among the names.

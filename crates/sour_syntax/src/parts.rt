@@ -1,14 +1,11 @@
 //! What a body is made of, before it is known to be one.
 
-ghost use Rattle.std.specs.Prelude.{◌≡◌, ◌≤◌, ◌^◌, ◌↔◌, IsTrue, length};
-ghost use Rattle.sour_syntax.specs.Body.{IsPlain};
+ghost use Rattle.std.specs.Prelude.{◌≡◌, ◌≤◌, ◌^◌, length};
 
 use crate::instruction::Line;
 use crate::list::List;
 use crate::literal::FunId;
-use crate::mentions::lines_among;
 use crate::names::Names;
-use crate::terminator::ends_in_terminator;
 use std::marker::Model;
 
 /// The parts of a body. Contracts see them as they see a body.
@@ -54,16 +51,5 @@ impl Parts {
         ensures { result ≡ self.now.parameters }
     {
         self.parameters as usize
-    }
-
-    /// Whether its parameters are variables, its last line ends it, and each variable that it mentions
-    /// is one of its own.
-    pub(crate) fn is_plain(&self) -> bool
-        ensures tells { IsTrue result ↔ IsPlain self.now }
-        ensures few { length self.now.variables ≤ 2 ^ 32 }
-    {
-        self.parameters() <= self.count()
-            && ends_in_terminator(self.lines())
-            && lines_among(self.lines(), self.count())
     }
 }

@@ -119,6 +119,14 @@ impl Program {
         self.functions.get(function.0 as usize)
     }
 
+    /// Its functions, in order.
+    pub fn functions(&self) -> &[Function]
+        ensures value { result.now ≡ self.now.functions }
+        ensures checked { IsProgram self.now }
+    {
+        self.functions.as_slice()
+    }
+
     /// The function that a run enters first.
     pub fn main(&self) -> FunId
         ensures value { result ≡ self.now.main }

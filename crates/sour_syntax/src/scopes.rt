@@ -3,7 +3,7 @@
 ghost use Rattle.std.specs.Prelude.{◌≡◌, ◌<◌, ◌↔◌, Bool, IsTrue, true, false, slice_set};
 ghost use Rattle.std.specs.List.{AllByRecursion};
 ghost use Rattle.sour_syntax.specs.Exits.{bound_values, extras_values, exit_values};
-ghost use Rattle.sour_syntax.specs.Scopes.{simple_variables, variables_of_expr, variables_of_each, scope_after, IsInScope, IsOutOfScope, IsFine};
+ghost use Rattle.sour_syntax.specs.Scopes.{simple_variables, variables_of_expr, variables_of_each, needed, declared_by, scope_after, IsInScope, IsOutOfScope};
 
 use crate::exit::{Bind, Exit, Extra};
 use crate::expression::{Expr, Simple};
@@ -97,18 +97,16 @@ fn exit_has_variables(exit: &Exit, scope: &[bool]) -> bool
         && extras_have_variables(exit.extras.as_slice(), scope)
 }
 
-/// Whether an instruction may stand where this is the scope.
-pub(crate) fn is_fine(instr: &Instr, scope: &[bool]) -> bool
-    ensures { IsTrue result ↔ IsFine instr.now scope.now }
+/// Whether the variables that an instruction needs are in scope.
+pub(crate) fn has_needed(instr: &Instr, scope: &[bool]) -> bool
+    ensures { IsTrue result ↔ AllByRecursion (IsInScope scope.now) (needed instr.now) }
 {
     match instr {
-        Instr::Var(x, e) => is_out_of_scope(*x, scope) && has_variables(e, scope),
+        Instr::Var(_, e) => has_variables(e, scope),
         Instr::Drop(x) => is_in_scope(*x, scope),
         Instr::Assign(x, e) => is_in_scope(*x, scope) && has_variables(e, scope),
-        Instr::ArrayLength(x, e) => is_out_of_scope(*x, scope) && has_variables(e, scope),
-        Instr::ArrayList(x, es) => {
-            is_out_of_scope(*x, scope) && each_has_variables(es.as_slice(), scope)
-        }
+        Instr::ArrayLength(_, e) => has_variables(e, scope),
+        Instr::ArrayList(_, es) => each_has_variables(es.as_slice(), scope),
         Instr::Store(x, index, e) => {
             is_in_scope(*x, scope) && has_operand(*index, scope) && has_variables(e, scope)
         }
@@ -124,6 +122,28 @@ pub(crate) fn is_fine(instr: &Instr, scope: &[bool]) -> bool
         Instr::Assume(es, exit) => {
             each_has_variables(es.as_slice(), scope) && exit_has_variables(exit, scope)
         }
+    }
+}
+
+/// Whether no variable that an instruction declares is in scope.
+pub(crate) fn lacks_declared(instr: &Instr, scope: &[bool]) -> bool
+    ensures { IsTrue result ↔ AllByRecursion (IsOutOfScope scope.now) (declared_by instr.now) }
+{
+    match instr {
+        Instr::Var(x, _) => is_out_of_scope(*x, scope),
+        Instr::ArrayLength(x, _) => is_out_of_scope(*x, scope),
+        Instr::ArrayList(x, _) => is_out_of_scope(*x, scope),
+        Instr::Drop(_) => true,
+        Instr::Assign(_, _) => true,
+        Instr::Store(_, _, _) => true,
+        Instr::Print(_) => true,
+        Instr::Read(_) => true,
+        Instr::Branch(_, _, _) => true,
+        Instr::Goto(_) => true,
+        Instr::Call(_, _, _) => true,
+        Instr::Return(_) => true,
+        Instr::Stop => true,
+        Instr::Assume(_, _) => true,
     }
 }
 

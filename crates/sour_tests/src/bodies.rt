@@ -3,33 +3,23 @@
 ghost use Rattle.std.specs.Prelude.{◌≡◌, [], ◌∷◌, IfOk};
 ghost use Rattle.sour_syntax.specs.Labels.{automatic_label};
 
+use crate::jobs::{body_of, seen};
 use sour_syntax::{
-    Body, Code, Expr, FunId, Function, Instr, Label, Line, List, Names, Simple, VarId, Version,
-    body_named,
+    Body, Code, FunId, Instr, Job, Label, Labels, Line, List, Names, VarId, body_named,
 };
 use std::alloc::{AllocError, Global};
 use std::test::Fail;
 
-fn label_of(alloc: Global, name: &str) -> Result<Label, AllocError> {
-    Ok(Label::from_bytes(Vec::from_slice(alloc, name.as_bytes())?))
-}
-
-/// Reads into a variable, goes to this label, stops at `c` and returns the variable at `d`.
-fn body_that_goes_to(alloc: Global, name: &str) -> Result<Option<Body>, AllocError> {
-    let mut variables = Names::new(alloc);
-    let x = variables.add(Vec::from_slice(alloc, b"x")?)?;
-    let mut lines = List::new(alloc);
-    for (label, instr) in [
-        ("a", Instr::Read(x)),
-        ("b", Instr::Goto(label_of(alloc, name)?)),
-        ("c", Instr::Stop),
-        ("d", Instr::Return(Expr::Plain(Simple::Var(x)))),
-    ] {
-        let label = label_of(alloc, label)?;
-        lines.push(Line { label, instr })?;
-    }
-    Body::checked(alloc, FunId(7), 0, variables, lines)
-}
+/// A version that reads into a variable, goes to `d` past a line that no path leads to, and returns
+/// the variable there.
+const TEXT: &[u8] = b"fun main()
+ver base
+a: read x
+b: goto d
+c: stop
+d: return x
+end
+";
 
 /// The function of a body, and how many parameters, variables and lines it has.
 fn counts(body: &Body) -> (FunId, u32, usize, usize) {
@@ -41,43 +31,17 @@ fn counts(body: &Body) -> (FunId, u32, usize, usize) {
     )
 }
 
-/// What a body has that goes to this label, where that is one.
-fn counts_with(
-    alloc: Global,
-    label: &str,
-) -> Result<Option<(FunId, u32, usize, usize)>, AllocError> {
-    Ok(body_that_goes_to(alloc, label)?.map(|body| counts(&body)))
-}
-
-#[test]
-fn a_body_has_labels_of_its_own_and_one_scope_for_each(rt: HostRuntime) -> Result<(), Fail> {
-    for (label, parts) in [
-        ("a", None),
-        ("c", Some((FunId(7), 0, 1, 4))),
-        ("d", Some((FunId(7), 0, 1, 4))),
-        ("e", None),
-    ] {
-        assert!(rt; counts_with(rt.alloc(), label)? == parts, "with {label}");
-    }
-    Ok(())
-}
-
-/// The place of a label in a body.
-fn place_in(alloc: Global, body: &Body, name: &str) -> Result<Option<usize>, AllocError> {
-    let label = label_of(alloc, name)?;
-    Ok(body.place(&label))
-}
-
-/// The place of a label in a body that goes to `d`.
-fn place_of(alloc: Global, name: &str) -> Result<Option<usize>, Fail> {
-    let body = body_that_goes_to(alloc, "d")?.ok_or("no body")?;
-    Ok(place_in(alloc, &body, name)?)
+/// The place of a label in the body of that version.
+fn place_in(alloc: Global, job: &Job, name: &str) -> Result<Option<usize>, AllocError> {
+    let label = Label::from_bytes(Vec::from_slice(alloc, name.as_bytes())?);
+    Ok(body_of(job, 0).and_then(|body| body.place(&label)))
 }
 
 #[test]
 fn a_body_knows_its_labels(rt: HostRuntime) -> Result<(), Fail> {
     for (name, place) in [("a", Some(0)), ("d", Some(3)), ("e", None)] {
-        assert!(rt; place_of(rt.alloc(), name)? == place, "of {name}");
+        let found = seen(rt.alloc(), TEXT, |job| place_in(rt.alloc(), job, name))?;
+        assert!(rt; found? == place, "of {name}");
     }
     Ok(())
 }
@@ -96,15 +60,6 @@ fn paths_in(body: &Body, place: usize) -> (Option<usize>, Option<(usize, Option<
     )
 }
 
-/// The same of a body that goes to `d`.
-fn paths_at(
-    alloc: Global,
-    place: usize,
-) -> Result<(Option<usize>, Option<(usize, Option<VarId>)>), Fail> {
-    let body = body_that_goes_to(alloc, "d")?.ok_or("no body")?;
-    Ok(paths_in(&body, place))
-}
-
 #[test]
 fn a_body_knows_its_scopes(rt: HostRuntime) -> Result<(), Fail> {
     let x = Some(VarId(0));
@@ -114,54 +69,68 @@ fn a_body_knows_its_scopes(rt: HostRuntime) -> Result<(), Fail> {
         (2, None),
         (3, Some((1, x))),
     ] {
-        assert!(rt;
-            paths_at(rt.alloc(), place)? == (Some(3), scope),
-            "at {place}"
-        );
+        let found = seen(rt.alloc(), TEXT, |job| {
+            body_of(job, 0).map(|body| paths_in(body, place))
+        })?;
+        assert!(rt; found == Some((Some(3), scope)), "at {place}");
     }
     Ok(())
 }
 
-/// The function of the body that a code names.
-fn function_in(functions: &[Function], code: Code) -> Option<FunId> {
-    body_named(functions, code).map(Body::function)
-}
-
-/// The same among one function with one version.
-fn function_named(alloc: Global, code: Code) -> Result<Option<FunId>, Fail> {
-    let body = body_that_goes_to(alloc, "d")?.ok_or("no body")?;
-    let name = label_of(alloc, "base")?;
-    let versions = List::from_vec(vec![in alloc; Version { name, body }]?);
-    let name = label_of(alloc, "f")?;
-    Ok(function_in(&[Function { name, versions }], code))
+/// The function of the body that a code names, and how many lines that has.
+fn named(job: &Job, code: Code) -> Option<(FunId, usize)> {
+    let body = body_named(job.program.functions(), code)?;
+    Some((body.function(), body.lines().len()))
 }
 
 #[test]
 fn a_code_names_a_body(rt: HostRuntime) -> Result<(), Fail> {
-    for (code, function) in [
-        (Code::Text(FunId(0), 0), Some(FunId(7))),
+    for (code, body) in [
+        (Code::Text(FunId(0), 0), Some((FunId(0), 4))),
         (Code::Text(FunId(0), 1), None),
         (Code::Text(FunId(1), 0), None),
         (Code::Made(1), None),
     ] {
-        assert!(rt; function_named(rt.alloc(), code)? == function, "{code:?}");
+        let found = seen(rt.alloc(), TEXT, |job| named(job, code))?;
+        assert!(rt; found == body, "{code:?}");
     }
     Ok(())
 }
 
 /// A line that stops.
 fn stop(alloc: Global) -> Result<List<Line>, AllocError>
-    ensures { IfOk result (λ lines. lines ≡ record { label = automatic_label 0; instr = Instr.Stop } ∷ []) }
+    ensures { IfOk result (λ lines. lines ≡ record {
+      label = automatic_label 0;
+      instr = Instr.Stop;
+    } ∷ []) }
 {
     let label = Label::automatic(alloc, 0)?;
     let instr = Instr::Stop;
     Ok(List::from_vec(vec![in alloc; Line { label, instr }]?))
 }
 
+/// Its label.
+fn label_of_stop(alloc: Global) -> Result<Labels, AllocError>
+    ensures { IfOk result (λ labels. labels ≡ automatic_label 0 ∷ []) }
+{
+    let label = Label::automatic(alloc, 0)?;
+    let mut labels = Labels::new(alloc);
+    labels.add(Vec::from_slice(alloc, label.as_bytes())?)?;
+    Ok(labels)
+}
+
 /// A body that stops, of parts that are known to be those of a body.
 fn body_that_stops(alloc: Global) -> Result<Option<Body>, AllocError> {
-    let checked = Body::checked(alloc, FunId(2), 0, Names::new(alloc), stop(alloc)?)?;
-    let Some(body) = checked else {
+    let names = Names::new(alloc);
+    let checked = Body::checked(
+        alloc,
+        FunId(2),
+        0,
+        names,
+        label_of_stop(alloc)?,
+        stop(alloc)?,
+    )?;
+    let Ok(body) = checked else {
         return Ok(None);
     };
     // What these two ensure is all that holds of every body.

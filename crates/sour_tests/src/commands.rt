@@ -1,7 +1,7 @@
 //! The commands, and what they write.
 
 use crate::jobs::seen;
-use sour_commands::{Fault, command_run, sourir, write_fault};
+use sour_commands::{Fault, command_check, command_run, command_show, sourir, write_fault};
 use sour_machine::{End, Report};
 use sour_ports::{Failed, MemorySink, MemorySource};
 use sour_report::write_block;
@@ -92,7 +92,11 @@ fn writes_the_line_of_a_fault(rt: HostRuntime) -> Result<(), Fail> {
             "fault text 3 line 1 column 11\n",
             3,
         ),
-        (Fault::ScopeUnplaced, "fault scope 0 line 0\n", 3),
+        (
+            Fault::Scope { kind: 5, line: 70 },
+            "fault scope 5 line 70\n",
+            3,
+        ),
         (Fault::Memory, "fault memory\n", 6),
     ] {
         let (written, given) = line_of(rt.alloc(), fault)?;
@@ -106,9 +110,9 @@ fn writes_the_line_of_a_fault(rt: HostRuntime) -> Result<(), Fail> {
 
 /// Adds up the numbers from the input down to 1. On 3 it takes 8 turns.
 const SUM: &[u8] = b"fun main()
-ver base
+ver base # adds up
 read n
-var s = 0
+var s=0
 loop: branch n == 0 done more
 more: s <- s + n
 n <- n - 1
@@ -143,6 +147,37 @@ fn runs_a_text_at_a_budget(rt: HostRuntime) -> Result<(), Fail> {
     Ok(())
 }
 
+/// The canonical text of that program.
+const CANONICAL_SUM: &[u8] = b"fun main()
+ver base
+read n
+var s = 0
+loop: branch n == 0 done more
+more: s <- s + n
+n <- n - 1
+goto loop
+done: return s
+end
+";
+
+#[test]
+fn counts_what_a_text_has(rt: HostRuntime) -> Result<(), Fail> {
+    let (mut source, mut sink) = (source(rt.alloc())?, ample_sink(rt.alloc())?);
+    let status = command_check(rt.alloc(), &mut source, &mut sink);
+    assert!(rt;
+        status == 0 && sink.taken() == b"accepted functions 1 jobs 0 inputs 1\n".as_slice()
+    );
+    Ok(())
+}
+
+#[test]
+fn shows_the_program_of_a_text(rt: HostRuntime) -> Result<(), Fail> {
+    let (mut source, mut sink) = (source(rt.alloc())?, ample_sink(rt.alloc())?);
+    let status = command_show(rt.alloc(), &mut source, &mut sink);
+    assert!(rt; status == 0 && sink.taken() == CANONICAL_SUM);
+    Ok(())
+}
+
 /// What is written for these words and that text, and the status.
 fn answered(alloc: Global, words: &[&str]) -> Result<(Vec<u8>, u8), AllocError> {
     let mut strings = Vec::new(alloc);
@@ -157,11 +192,13 @@ fn answered(alloc: Global, words: &[&str]) -> Result<(Vec<u8>, u8), AllocError> 
 #[test]
 fn does_what_the_words_ask_for(rt: HostRuntime) -> Result<(), Fail> {
     for (words, answer, status) in [
-        (["run", "--budget", "8"], "input 1\nend 6\n", 0),
-        (["run", "--budget", "7"], "input 1\ncut\n", 7),
-        (["run", "--budget", "0"], "fault words\n", 2),
+        (&["run", "--budget", "8"][..], "input 1\nend 6\n", 0),
+        (&["run", "--budget", "7"], "input 1\ncut\n", 7),
+        (&["run", "--budget", "0"], "fault words\n", 2),
+        (&["run"], "input 1\nend 6\n", 0),
+        (&["check"], "accepted functions 1 jobs 0 inputs 1\n", 0),
     ] {
-        let (written, given) = answered(rt.alloc(), &words)?;
+        let (written, given) = answered(rt.alloc(), words)?;
         assert!(rt;
             given == status && written.as_slice() == answer.as_bytes(),
             "{words:?}"

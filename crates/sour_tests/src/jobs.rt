@@ -1,14 +1,20 @@
 //! Jobs, each from its text.
 
 use sour_reader::read_job;
-use sour_scope::check;
-use sour_syntax::Job;
+use sour_scope::{ScopeFault, check};
+use sour_syntax::{Body, FunId, Job};
 use std::alloc::Global;
 use std::test::Fail;
 
+/// What comes of the check of a text that reads as a job.
+pub(crate) fn checked(alloc: Global, text: &[u8]) -> Result<Result<Job, ScopeFault>, Fail> {
+    let raw = read_job(alloc, text)?;
+    Ok(check(alloc, raw))
+}
+
 /// The job that a text means.
 pub(crate) fn job_of(alloc: Global, text: &[u8]) -> Result<Job, Fail> {
-    Ok(check(alloc, read_job(alloc, text)?)?)
+    Ok(checked(alloc, text)??)
 }
 
 /// What is seen in the job that a text means.
@@ -21,4 +27,9 @@ pub(crate) fn seen<T: Drop, F: Fn(&Job) -> T>(
 {
     let job = job_of(alloc, text)?;
     Ok(look(&job))
+}
+
+/// The body of the first version of a function.
+pub(crate) fn body_of(job: &Job, function: u32) -> Option<&Body> {
+    Some(&job.program.function(FunId(function))?.versions.get(0)?.body)
 }

@@ -12,11 +12,15 @@ mod commands;
 #[cfg(test)]
 mod exits;
 #[cfg(test)]
+mod faults;
+#[cfg(test)]
 mod heaps;
 #[cfg(test)]
 mod jobs;
 #[cfg(test)]
 mod ports;
+#[cfg(test)]
+mod printing;
 #[cfg(test)]
 mod programs;
 #[cfg(test)]

@@ -1,8 +1,8 @@
 //! What a text means.
 
-use crate::jobs::seen;
+use crate::jobs::{body_of, seen};
 use sour_syntax::{
-    Body, Code, Exit, Expr, FunId, Instr, Job, Literal, Op, Pass, PlanSimple, Simple, Start, VarId,
+    Code, Exit, Expr, FunId, Instr, Job, Literal, Op, Pass, PlanSimple, Simple, Start, VarId,
 };
 use std::test::Fail;
 
@@ -32,11 +32,6 @@ job f from text: move @b; hoist @c @d/1 nil == y; compose @e; prune; inline f ac
 input 1 true &g
 input
 ";
-
-/// The body of the first version of a function.
-fn body_of(job: &Job, function: u32) -> Option<&Body> {
-    Some(&job.program.function(FunId(function))?.versions.get(0)?.body)
-}
 
 /// The number of a variable of `f`.
 fn number_of(job: &Job, name: &str) -> Option<usize> {

@@ -1,6 +1,6 @@
 //! Lists, labels, names and traps.
 
-use sour_syntax::{Label, List, Names, Trap, VarId};
+use sour_syntax::{Label, Labels, List, Names, Trap, VarId};
 use std::alloc::{AllocError, Global};
 use std::test::Fail;
 
@@ -78,6 +78,23 @@ fn names_are_numbered_in_the_order_of_first_mention(rt: HostRuntime) -> Result<(
         );
     }
     assert!(rt; names.place(b"abc").is_none());
+    for (place, name) in [(1, Some(&b"a"[..])), (2, Some(&b"ab"[..])), (3, None)] {
+        assert!(rt; names.get(place) == name, "at {place}");
+    }
+    Ok(())
+}
+
+#[test]
+fn labels_stand_once_in_the_order_of_their_places(rt: HostRuntime) -> Result<(), Fail> {
+    let mut labels = Labels::new(rt.alloc());
+    for (label, is_new, place) in [("b", true, 0), ("a", true, 1), ("b", false, 0)] {
+        let put = labels.add(Vec::from_slice(rt.alloc(), label.as_bytes())?)?;
+        assert!(rt;
+            put == is_new && labels.place(label.as_bytes()) == Some(place),
+            "of {label}"
+        );
+    }
+    assert!(rt; labels.place(b"ab").is_none());
     Ok(())
 }
 

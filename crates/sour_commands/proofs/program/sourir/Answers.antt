@@ -1,24 +1,20 @@
-use Rattle.std.proofs.Common.{refl, inl, inr}
-use Rattle.sour_commands.specs.Answer.{unknown_words}
-use Rattle.sour_commands.proofs.WordLemmas.{asked-within, none-some}
+use Rattle.std.proofs.Common.{refl}
+use Rattle.sour_commands.proofs.CommandLemmas.{asked-within}
 use Rattle.sour_commands.proofs.program.sourir.Goals as goal
 
 pub command_run-requires : goal.command_run-requires
-command_run-requires g c = asked-within _ c.in-Some.budget ((c.in-Some.ensures c.in-Some.budget).1 refl)
+command_run-requires g c =
+    let found = c.in-Some-Run in
+    asked-within _ found.budget (rw found.field-0-is at ((found.ensures found.field-0).1 refl))
 
-pub returns-in-Some-clause-serves : goal.returns-in-Some-clause-serves
-returns-in-Some-clause-serves g c = record {
-  answer = c.command_run.ensures.answer;
-  due = inl (c.in-Some.budget, (c.in-Some.ensures c.in-Some.budget).1 refl, c.command_run.ensures.due);
-  given = c.command_run.ensures.given;
-}
+pub returns-in-Some-Run-clause-unread : goal.returns-in-Some-Run-clause-unread
+returns-in-Some-Run-clause-unread g c =
+    let found = c.in-Some-Run in λ none. absurd (none found.field-0 ((found.ensures found.field-0).1 refl))
 
-pub returns-in-None-clause-serves : goal.returns-in-None-clause-serves
-returns-in-None-clause-serves g c = record {
-  answer = unknown_words;
-  due = inr (λ budget asks. none-some budget ((c.in-None.ensures budget).0 asks), refl);
-  given = c.write_fault.ensures;
-}
+pub returns-in-Some-Check-clause-unread : goal.returns-in-Some-Check-clause-unread
+returns-in-Some-Check-clause-unread g c =
+    let found = c.in-Some-Check in λ none. absurd (none found.field-0 ((found.ensures found.field-0).1 refl))
 
-pub returns-in-Some-clause-unread : goal.returns-in-Some-clause-unread
-returns-in-Some-clause-unread g c = λ none. absurd (none c.in-Some.budget ((c.in-Some.ensures c.in-Some.budget).1 refl))
+pub returns-in-Some-Show-clause-unread : goal.returns-in-Some-Show-clause-unread
+returns-in-Some-Show-clause-unread g c =
+    let found = c.in-Some-Show in λ none. absurd (none found.field-0 ((found.ensures found.field-0).1 refl))

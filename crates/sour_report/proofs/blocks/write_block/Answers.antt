@@ -5,16 +5,23 @@ use Rattle.sour_report.proofs.blocks.write_block.Goals as goal
 
 pub returns-in_err-write_head-clause-front : goal.returns-in_err-write_head-clause-front
 returns-in_err-write_head-clause-front g c =
+    let report = c.args.report.now in
     OnErr-from c.from_residual.result
-    (front-head _ _ c.args.report.now.input c.args.report.now.output (end_line c.args.program.now c.args.report.now.cells c.args.report.now.end) c.in_err-write_head.ensures.front)
+    (front-head _ _ report.input report.output (end_line c.args.program.now report.cells report.end)
+    c.in_err-write_head.ensures.front)
 
 pub returns-in_err-write_all-clause-front : goal.returns-in_err-write_all-clause-front
 returns-in_err-write_all-clause-front g c =
+    let report = c.args.report.now in
     OnErr-from c.from_residual-in_err-write_all.result
-    (front-output _ _ _ c.args.report.now.input c.args.report.now.output (end_line c.args.program.now c.args.report.now.cells c.args.report.now.end) c.in_ok-write_head.ensures.all (rw c.as_slice.ensures at c.in_err-write_all.ensures.front))
+    (front-output _ _ _ report.input report.output (end_line c.args.program.now report.cells report.end)
+    c.in_ok-write_head.ensures.all (rw c.as_slice.ensures at c.in_err-write_all.ensures.front))
 
 pub returns-clause-front : goal.returns-clause-front
 returns-clause-front g c =
+    let report = c.args.report.now in
+    let output = rw c.as_slice.ensures at c.in_ok-write_all.ensures.all in
     on_err_weaker c.write_end.result
-    (λ part. front-end _ _ _ _ c.args.report.now.input c.args.report.now.output (end_line c.args.program.now c.args.report.now.cells c.args.report.now.end) c.in_ok-write_head.ensures.all (rw c.as_slice.ensures at c.in_ok-write_all.ensures.all) part)
+    (λ part. front-end _ _ _ _ report.input report.output (end_line c.args.program.now report.cells report.end)
+    c.in_ok-write_head.ensures.all output part)
     c.write_end.ensures.front

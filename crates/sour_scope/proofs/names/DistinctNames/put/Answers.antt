@@ -1,5 +1,5 @@
 use Rattle.std.proofs.Common.{◌+◌, ◌^◌, ◌<◌, length, sym, ◌∙◌, arith}
-use Rattle.sour_scope.proofs.NameLaws.{distinct_more, numbered}
+use Rattle.laws_scope.proofs.NameLaws.{distinct_more, numbered}
 use Rattle.sour_scope.proofs.names.DistinctNames.put.Goals as goal
 
 pub invariant_of-self-2 : goal.invariant_of-self-2

@@ -1,0 +1,9 @@
+pub mod Outline
+pub mod Numbered
+pub mod Checked
+pub mod Fault
+pub mod Texts
+pub mod Parts
+pub mod Names
+pub mod Landing
+pub mod FirstFault
