@@ -1,2 +1,4 @@
-pub mod Renamed
-pub mod Mentioned
+pub mod Expressions
+pub mod Mapped
+pub mod Renaming
+pub mod Rows

@@ -1,1 +1,4 @@
+pub mod Mapping
+pub mod Renaming
+pub mod Keeps
 pub mod Laws

@@ -1,5 +1,5 @@
-use Rattle.laws_renaming.proofs.Renamed.{renamed-same}
+use Rattle.laws_renaming.proofs.Mapped.{mapped-same}
 use Rattle.laws_renaming.proofs.by_same.Goals as goal
 
 pub returns : goal.returns
-returns c = renamed-same
+returns c = mapped-same
