@@ -6,3 +6,4 @@ pub mod Paths
 pub mod RelinedPaths
 pub mod RelinedBodies
 pub mod SplicedBodies
+pub mod RenumberedBodies

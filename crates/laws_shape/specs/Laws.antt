@@ -1,23 +1,30 @@
 -- What the kit says of the shape of bundles.
-use Rattle.std.specs.Prelude.{◌≡◌, ◌≤◌, ◌+◌, ℕ, List, [], ◌∷◌, ◌++◌, Some, length}
+use Rattle.std.specs.Prelude.{◌≡◌, ◌≤◌, ◌+◌, ℕ, List, [], ◌∷◌, ◌++◌, Some, length, map}
 use Rattle.std.specs.List.{AllByRecursion}
+use Rattle.sour_syntax.specs.declared.exit.Code.{Code}
+use Rattle.sour_syntax.specs.declared.expression.Expr.{Expr}
 use Rattle.sour_syntax.specs.declared.instruction.Instr.{Instr}
 use Rattle.sour_syntax.specs.declared.instruction.Line.{Line}
 use Rattle.sour_syntax.specs.declared.literal.FunId.{FunId}
+use Rattle.sour_syntax.specs.declared.program.Function.{Function}
 use Rattle.sour_syntax.specs.BodyView.{BodyView}
+use Rattle.sour_syntax.specs.Exits.{Continuation}
 use Rattle.sour_syntax.specs.Labels.{LabelsDiffer}
 use Rattle.sour_syntax.specs.Program.{ProgramView}
 use Rattle.sour_syntax.specs.Scopes.{Scope, HasScope}
-use Rattle.sour_syntax.specs.Targets.{made_body}
+use Rattle.sour_syntax.specs.Targets.{made_body, named_body, IsNamed, Lands}
 use Rattle.sour_syntax.specs.Terminator.{EndsInTerminator}
 use Rattle.sour_semantics.specs.State.{BundleView}
 use Rattle.sour_semantics.specs.Shape.{HasSomeScope, IsMadeBody, AreMadeBodies, HasShape}
+use Rattle.laws_renaming.specs.Mapping.{mapped_continuation}
 use Rattle.laws_simulation.specs.Relined.{relined_body}
+use Rattle.laws_simulation.specs.Renumbered.{renumbered_body}
 use Rattle.laws_simulation.specs.Spliced.{spliced}
 use Rattle.laws_simulation.specs.Tops.{with_top, with_last}
 use Rattle.laws_shape.specs.MadeLines.{IsMadeLine, IsLined}
 use Rattle.laws_shape.specs.Paths.{PathsBack, PathsOnward}
 use Rattle.laws_shape.specs.Relined.{KeepsPaths, LineStands, IsMadeChange, KeepsShape}
+use Rattle.laws_shape.specs.Renumbered.{HasLike, AreRenumbered}
 use Rattle.laws_shape.specs.Spliced.{StandsFor, EndsWell}
 
 -- a body is one of a bundle if its lines are lines of one, each is reached and they are few enough
@@ -50,6 +57,31 @@ RelinedIsMade =
     (program : ProgramView) (earlier later : List BodyView) (body : BodyView) (change : List ℕ → Instr → Instr)
     → IsMadeBody program earlier body → KeepsShape program later body change
     → IsMadeBody program later (relined_body change body)
+
+-- what a continuation names is there, and it lands, if its values are mapped and its code to one that names the like
+pub record StandsThere (functions : List Function) (earlier later : List BodyView)
+    (old new : Continuation) : Type 0 where
+  pub named : IsNamed functions earlier old → IsNamed functions later new
+  pub lands : Lands functions earlier old → Lands functions later new
+
+abbrev pub ContinuationStands : Type 0
+ContinuationStands = (functions : List Function) (earlier later : List BodyView) (codes : Code → Code)
+    (values : Expr → Expr) (continuation : Continuation)
+    → ((body : BodyView) → named_body functions earlier continuation.target.code ≡ Some body
+    → HasLike functions later (codes continuation.target.code) body)
+    → StandsThere functions earlier later continuation (mapped_continuation codes values continuation)
+
+-- a body whose exits lead to bodies under other numbers is one of a bundle where those stand under these
+abbrev pub RenumberedIsMade : Type 0
+RenumberedIsMade = (program : ProgramView) (numbers : ℕ → ℕ) (earlier later : List BodyView) (body : BodyView)
+    → IsMadeBody program earlier body → AreRenumbered numbers earlier later body
+    → IsMadeBody program later (renumbered_body numbers body)
+
+-- bodies of a bundle may come after those of another, with numbers that are as much higher
+abbrev pub RenumberedAreMade : Type 0
+RenumberedAreMade = (program : ProgramView) (lower bodies : List BodyView) → AreMadeBodies program [] lower
+    → AreMadeBodies program [] bodies
+    → AreMadeBodies program [] (lower ++ map (renumbered_body (λ number. length lower + number)) bodies)
 
 -- a bundle keeps its shape if each line of its top changes to one that may stand there
 abbrev pub RelinedHasShape : Type 0

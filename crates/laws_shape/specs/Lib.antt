@@ -2,4 +2,5 @@ pub mod MadeLines
 pub mod Paths
 pub mod Relined
 pub mod Spliced
+pub mod Renumbered
 pub mod Laws

@@ -3,7 +3,7 @@
 //! nothing; the proofs go by the definitions alone.
 #![tactic(auto)]
 
-ghost use Rattle.laws_shape.specs.Laws.{MadeOfLines, LinesOfMade, AppendedHasShape, TopHasShape, RelinedIsMade, RelinedHasShape, PathsComeBack, PathsGoOn, SplicedDiffer, SplicedEnd};
+ghost use Rattle.laws_shape.specs.Laws.{MadeOfLines, LinesOfMade, AppendedHasShape, TopHasShape, RelinedIsMade, RelinedHasShape, ContinuationStands, RenumberedIsMade, RenumberedAreMade, PathsComeBack, PathsGoOn, SplicedDiffer, SplicedEnd};
 
 /// A body is one of a bundle if each of its lines may be one, a path leads to each, and they are few enough.
 pub fn made_of_lines()
@@ -33,6 +33,21 @@ pub fn relined_is_made()
 /// A bundle keeps its shape if each line of its top changes to one that may stand there, and labels and paths stay.
 pub fn relined_has_shape()
     ensures { RelinedHasShape }
+{}
+
+/// A continuation whose values are mapped names what is there, and lands, if its code is mapped to that of the like.
+pub fn continuation_stands()
+    ensures { ContinuationStands }
+{}
+
+/// A body whose exits lead to bodies under other numbers stays a body of a bundle, where those stand under these.
+pub fn renumbered_is_made()
+    ensures { RenumberedIsMade }
+{}
+
+/// The bodies of a bundle may stand after those of another, if their exits lead to numbers that are as much higher.
+pub fn renumbered_are_made()
+    ensures { RenumberedAreMade }
 {}
 
 /// The paths of a new body are those of an old one, if each step of a path is one there or stays where it is.

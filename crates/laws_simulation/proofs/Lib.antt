@@ -15,3 +15,4 @@ pub mod TopRuns
 pub mod FactRuns
 pub mod Predicates
 pub mod Injected
+pub mod Renumbered

@@ -12,3 +12,4 @@ pub mod Facts
 pub mod Anchors
 pub mod Inject
 pub mod Laws
+pub mod Renumbered

@@ -5,6 +5,7 @@
 
 ghost use Rattle.laws_simulation.specs.Laws.{ActsByEffect, DoesItsDeed, CarriesEffect, AlikeLandsBack};
 ghost use Rattle.laws_simulation.specs.Inject.{InjectedIsLawful};
+ghost use Rattle.laws_simulation.specs.Renumbered.{RenumberedIsCarried};
 
 /// An instruction is its effect, applied: what it does to its own frame and to the world, apart from the frames
 /// below.
@@ -31,4 +32,9 @@ pub fn alike_lands_back()
 /// A lawful bundle stays lawful with one test of equality more at an anchor of its top, if it keeps its shape.
 pub fn injected_is_lawful()
     ensures { InjectedIsLawful }
+{}
+
+/// Bodies under other numbers run as they did, beside others: their instructions are carried back to the old ones.
+pub fn renumbered_is_carried()
+    ensures { RenumberedIsCarried }
 {}
