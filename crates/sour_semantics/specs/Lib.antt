@@ -6,5 +6,4 @@ pub mod Run
 pub mod Shape
 pub mod Validity
 pub mod Agreement
-pub mod Renaming
 pub mod Block

@@ -4,6 +4,5 @@
 //! `State` is a moment of a run, `Evaluation` gives the value of an expression, `Step` says what one
 //! instruction does, `Run` what a run of the text is and where it rests at a budget, `Validity` what
 //! holds at every moment of a run, `Text` what a value prints as, and `Block` what a run shows its user.
-//! `Shape` says what bundles look like, `Agreement` what makes one lawful, and `Renaming` carries an
-//! instruction over into another body.
+//! `Shape` says what bundles look like, and `Agreement` what makes one lawful.
 #![tactic(auto)]
