@@ -1,8 +1,6 @@
 -- What is the same of an instruction whose parts are mapped.
-use Rattle.std.proofs.Common.{◌≡◌, ◌≤◌, ℕ, Bool, true, false, List, [], ◌∷◌, ◌++◌, map, refl, sym, ap, slice_set, subst}
+use Rattle.std.proofs.Common.{◌≡◌, arith, ℕ, Bool, true, false, List, [], ◌∷◌, ◌++◌, map, refl, sym, slice_set, subst}
 use Rattle.std.specs.List.{AllByRecursion}
-use Rattle.std.proofs.lemmas.List.{length-map, map-id}
-use Rattle.std.proofs.lemmas.Simd.{map-map}
 use Rattle.sour_syntax.specs.declared.literal.Literal.{Literal}
 use Rattle.sour_syntax.specs.declared.literal.VarId.{VarId}
 use Rattle.sour_syntax.specs.declared.expression.Simple.{Simple}
@@ -20,13 +18,9 @@ use Rattle.sour_semantics.specs.Shape.{IsAnchorInstr, IsCallOrReturn}
 use Rattle.laws_renaming.specs.Laws.{ChangesNothing, GoesInSteps, KeepsKind, MayStand}
 use Rattle.laws_renaming.specs.Mapping.{Mapping, mapped}
 use Rattle.laws_renaming.specs.Keeps.{Keeps, KeepsVariables, KeepsLiterals, KeepsAnchor, KeepsShort}
-use Rattle.laws_renaming.proofs.Expressions.{all-mapped, both-parts, each-variables, each-literals}
+use Rattle.laws_renaming.proofs.Expressions.{all-mapped, both-parts}
 
 module _ (by : Mapping) (P Q : VarId → Type 0) (keeps : KeepsVariables by P Q) where
-  -- of expressions
-  each : (es : List Expr) → Keeps P Q (variables_of_each es) (variables_of_each (map by.values es))
-  each = each-variables P Q by.values keeps.values
-
   -- of an operand and what comes after it
   two : (a : Simple) (xs ys : List VarId) → Keeps P Q xs ys
       → Keeps P Q (simple_variables a ++ xs) (simple_variables (by.operands a) ++ ys)
@@ -43,13 +37,13 @@ module _ (by : Mapping) (P Q : VarId → Type 0) (keeps : KeepsVariables by P Q)
   needed-mapped (Drop x) all = (keeps.variables x all.0, tt)
   needed-mapped (Assign x e) all = (keeps.variables x all.0, keeps.values e all.1)
   needed-mapped (ArrayLength x e) all = keeps.values e all
-  needed-mapped (ArrayList x es) all = each es all
+  needed-mapped (ArrayList x es) all = keeps.each es all
   needed-mapped (Store x index e) all = (keeps.variables x all.0, two index _ _ (keeps.values e) all.1)
   needed-mapped (Print e) all = keeps.values e all
   needed-mapped (Read x) all = tt
   needed-mapped (Branch e a b) all = keeps.values e all
   needed-mapped (Goto a) all = tt
-  needed-mapped (Call x callee es) all = two callee _ _ (each es) all
+  needed-mapped (Call x callee es) all = two callee _ _ (keeps.each es) all
   needed-mapped (Return e) all = keeps.values e all
   needed-mapped Stop all = tt
   needed-mapped (Assume es exit) all = assume es exit all
@@ -60,13 +54,13 @@ module _ (by : Mapping) (P Q : VarId → Type 0) (keeps : KeepsVariables by P Q)
   mentioned-mapped (Drop x) all = (keeps.variables x all.0, tt)
   mentioned-mapped (Assign x e) all = (keeps.variables x all.0, keeps.values e all.1)
   mentioned-mapped (ArrayLength x e) all = (keeps.variables x all.0, keeps.values e all.1)
-  mentioned-mapped (ArrayList x es) all = (keeps.variables x all.0, each es all.1)
+  mentioned-mapped (ArrayList x es) all = (keeps.variables x all.0, keeps.each es all.1)
   mentioned-mapped (Store x index e) all = (keeps.variables x all.0, two index _ _ (keeps.values e) all.1)
   mentioned-mapped (Print e) all = keeps.values e all
   mentioned-mapped (Read x) all = (keeps.variables x all.0, tt)
   mentioned-mapped (Branch e a b) all = keeps.values e all
   mentioned-mapped (Goto a) all = tt
-  mentioned-mapped (Call x callee es) all = (keeps.variables x all.0, two callee _ _ (each es) all.1)
+  mentioned-mapped (Call x callee es) all = (keeps.variables x all.0, two callee _ _ (keeps.each es) all.1)
   mentioned-mapped (Return e) all = keeps.values e all
   mentioned-mapped Stop all = tt
   mentioned-mapped (Assume es exit) all = assume es exit all
@@ -78,7 +72,7 @@ module _ (by : Mapping) (P Q : Literal → Type 0) (keeps : KeepsLiterals by P Q
   literals_of-mapped (Drop x) all = tt
   literals_of-mapped (Assign x e) all = keeps.values e all
   literals_of-mapped (ArrayLength x e) all = keeps.values e all
-  literals_of-mapped (ArrayList x es) all = each-literals P Q by.values keeps.values es all
+  literals_of-mapped (ArrayList x es) all = keeps.each es all
   literals_of-mapped (Store x index e) all =
       both-parts P Q (simple_literals index) _ _ _ (keeps.operands index) (keeps.values e) all
   literals_of-mapped (Print e) all = keeps.values e all
@@ -86,8 +80,7 @@ module _ (by : Mapping) (P Q : Literal → Type 0) (keeps : KeepsLiterals by P Q
   literals_of-mapped (Branch e a b) all = keeps.values e all
   literals_of-mapped (Goto a) all = tt
   literals_of-mapped (Call x callee es) all =
-      both-parts P Q (simple_literals callee) _ _ _
-      (keeps.operands callee) (each-literals P Q by.values keeps.values es) all
+      both-parts P Q (simple_literals callee) _ _ _ (keeps.operands callee) (keeps.each es) all
   literals_of-mapped (Return e) all = keeps.values e all
   literals_of-mapped Stop all = tt
   literals_of-mapped (Assume es exit) all =
@@ -99,13 +92,13 @@ mapped-same (Var x e) = refl
 mapped-same (Drop x) = refl
 mapped-same (Assign x e) = refl
 mapped-same (ArrayLength x e) = refl
-mapped-same (ArrayList x es) = ap (ArrayList x) (map-id es)
+mapped-same (ArrayList x es) = refl
 mapped-same (Store x index e) = refl
 mapped-same (Print e) = refl
 mapped-same (Read x) = refl
 mapped-same (Branch e a b) = refl
 mapped-same (Goto a) = refl
-mapped-same (Call x callee es) = ap (Call x callee) (map-id es)
+mapped-same (Call x callee es) = refl
 mapped-same (Return e) = refl
 mapped-same Stop = refl
 mapped-same (Assume es exit) = refl
@@ -116,16 +109,13 @@ mapped-both first second (Var x e) = refl
 mapped-both first second (Drop x) = refl
 mapped-both first second (Assign x e) = refl
 mapped-both first second (ArrayLength x e) = refl
-mapped-both first second (ArrayList x es) =
-    ap (ArrayList (second.variables (first.variables x))) (map-map second.values first.values es)
+mapped-both first second (ArrayList x es) = refl
 mapped-both first second (Store x index e) = refl
 mapped-both first second (Print e) = refl
 mapped-both first second (Read x) = refl
 mapped-both first second (Branch e a b) = refl
 mapped-both first second (Goto a) = refl
-mapped-both first second (Call x callee es) =
-    ap (Call (second.variables (first.variables x)) (second.operands (first.operands callee)))
-    (map-map second.values first.values es)
+mapped-both first second (Call x callee es) = refl
 mapped-both first second (Return e) = refl
 mapped-both first second Stop = refl
 mapped-both first second (Assume es exit) = refl
@@ -280,13 +270,13 @@ module _ (by : Mapping) where
   short-mapped keeps (Drop x) short = tt
   short-mapped keeps (Assign x e) short = tt
   short-mapped keeps (ArrayLength x e) short = tt
-  short-mapped keeps (ArrayList x es) short = subst (λ n. n ≤ 1024) (sym (length-map es by.values)) short
+  short-mapped keeps (ArrayList x es) short = let fewer = keeps.each es in omega (arith, fewer, short)
   short-mapped keeps (Store x index e) short = tt
   short-mapped keeps (Print e) short = tt
   short-mapped keeps (Read x) short = tt
   short-mapped keeps (Branch e a b) short = tt
   short-mapped keeps (Goto a) short = tt
-  short-mapped keeps (Call x callee es) short = subst (λ n. n ≤ 255) (sym (length-map es by.values)) short
+  short-mapped keeps (Call x callee es) short = let fewer = keeps.each es in omega (arith, fewer, short)
   short-mapped keeps (Return e) short = tt
   short-mapped keeps Stop short = tt
   short-mapped keeps (Assume es exit) short = (keeps.predicates es short.0, keeps.extras exit short.1)

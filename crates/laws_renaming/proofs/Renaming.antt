@@ -1,5 +1,5 @@
 -- What a renaming keeps.
-use Rattle.std.proofs.Common.{◌≤◌, ◌<◌, List, sym, subst}
+use Rattle.std.proofs.Common.{◌≤◌, ◌<◌, length, arith, List, sym, subst}
 use Rattle.std.specs.List.{AllByRecursion}
 use Rattle.std.proofs.lemmas.List.{length-map}
 use Rattle.sour_syntax.specs.declared.literal.Literal.{Literal}
@@ -33,6 +33,7 @@ module _ (by : Renaming) where
       variables = keeps;
       operands = simple-variables;
       values = expr-variables;
+      each = each-variables P Q (renamed_expr by) expr-variables;
       predicates = each-variables P Q (renamed_expr by) expr-variables;
       exits = λ exit all.
           let All : List Expr → Type 0 = λ es. AllByRecursion Q (variables_of_each es) in
@@ -55,6 +56,7 @@ module _ (by : Renaming) where
     renaming-literals = record {
       operands = simple-literals;
       values = expr-literals;
+      each = each-literals P P (renamed_expr by) expr-literals;
       predicates = each-literals P P (renamed_expr by) expr-literals;
       exits = λ exit all.
           let All : List Expr → Type 0 = λ es. AllByRecursion P (literals_of_each es) in
@@ -76,6 +78,7 @@ module _ (by : Renaming) where
   -- what is short stays short
   pub renaming-short : KeepsShort (renaming by)
   renaming-short = record {
+    each = λ es. subst (λ n. n ≤ length es) (sym (length-map es (renamed_expr by))) (omega arith);
     predicates = λ es few. subst (λ n. n ≤ 16) (sym (length-map es (renamed_expr by))) few;
     extras = λ exit few. subst (λ n. n ≤ 16) (sym (length-map exit.extras _)) few;
   }

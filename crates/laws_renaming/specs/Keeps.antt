@@ -21,6 +21,7 @@ pub record KeepsVariables (by : Mapping) (P Q : VarId → Type 0) : Type 0 where
   pub variables : (x : VarId) → P x → Q (by.variables x)
   pub operands : (a : Simple) → Keeps P Q (simple_variables a) (simple_variables (by.operands a))
   pub values : (e : Expr) → Keeps P Q (variables_of_expr e) (variables_of_expr (by.values e))
+  pub each : (es : List Expr) → Keeps P Q (variables_of_each es) (variables_of_each (by.each es))
   pub predicates : (es : List Expr) → Keeps P Q (variables_of_each es) (variables_of_each (by.predicates es))
   pub exits : (exit : Exit)
       → Keeps P Q (variables_of_each (exit_values exit)) (variables_of_each (exit_values (by.exits exit)))
@@ -29,6 +30,7 @@ pub record KeepsVariables (by : Mapping) (P Q : VarId → Type 0) : Type 0 where
 pub record KeepsLiterals (by : Mapping) (P Q : Literal → Type 0) : Type 0 where
   pub operands : (a : Simple) → Keeps P Q (simple_literals a) (simple_literals (by.operands a))
   pub values : (e : Expr) → Keeps P Q (literals_of_expr e) (literals_of_expr (by.values e))
+  pub each : (es : List Expr) → Keeps P Q (literals_of_each es) (literals_of_each (by.each es))
   pub predicates : (es : List Expr) → Keeps P Q (literals_of_each es) (literals_of_each (by.predicates es))
   pub exits : (exit : Exit)
       → Keeps P Q (literals_of_each (exit_values exit)) (literals_of_each (exit_values (by.exits exit)))
@@ -38,7 +40,8 @@ pub record KeepsAnchor (by : Mapping) : Type 0 where
   pub predicates : (es : List Expr) → Keeps IsEqualityTest IsEqualityTest es (by.predicates es)
   pub exits : (exit : Exit) → Keeps IsOperand IsOperand (exit_values exit) (exit_values (by.exits exit))
 
--- no more predicates and no more further frames come to be than an assume may have
+-- no more expressions come to be, and no more predicates and further frames than an assume may have
 pub record KeepsShort (by : Mapping) : Type 0 where
+  pub each : (es : List Expr) → length (by.each es) ≤ length es
   pub predicates : (es : List Expr) → length es ≤ 16 → length (by.predicates es) ≤ 16
   pub extras : (exit : Exit) → length exit.extras ≤ 16 → length (by.exits exit).extras ≤ 16

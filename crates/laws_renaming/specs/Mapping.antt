@@ -66,8 +66,9 @@ pub record Mapping : Type 0 where
   pub variables : VarId → VarId
   -- the index of a cell that is written, and the function that is called
   pub operands : Simple → Simple
-  -- an expression that is evaluated
+  -- an expression that is evaluated, and several: the elements of an array, or arguments
   pub values : Expr → Expr
+  pub each : List Expr → List Expr
   -- the predicates of an assume, and its exit
   pub predicates : List Expr → List Expr
   pub exits : Exit → Exit
@@ -79,6 +80,7 @@ same = record {
   variables = λ x. x;
   operands = λ a. a;
   values = λ e. e;
+  each = λ es. es;
   predicates = λ es. es;
   exits = λ exit. exit;
 }
@@ -90,6 +92,7 @@ both first second = record {
   variables = λ x. second.variables (first.variables x);
   operands = λ a. second.operands (first.operands a);
   values = λ e. second.values (first.values e);
+  each = λ es. second.each (first.each es);
   predicates = λ es. second.predicates (first.predicates es);
   exits = λ exit. second.exits (first.exits exit);
 }
@@ -100,13 +103,13 @@ mapped by (Var x e) = Var (by.variables x) (by.values e)
 mapped by (Drop x) = Drop (by.variables x)
 mapped by (Assign x e) = Assign (by.variables x) (by.values e)
 mapped by (ArrayLength x e) = ArrayLength (by.variables x) (by.values e)
-mapped by (ArrayList x es) = ArrayList (by.variables x) (map by.values es)
+mapped by (ArrayList x es) = ArrayList (by.variables x) (by.each es)
 mapped by (Store x index e) = Store (by.variables x) (by.operands index) (by.values e)
 mapped by (Print e) = Print (by.values e)
 mapped by (Read x) = Read (by.variables x)
 mapped by (Branch e a b) = Branch (by.values e) (by.labels a) (by.labels b)
 mapped by (Goto a) = Goto (by.labels a)
-mapped by (Call x callee es) = Call (by.variables x) (by.operands callee) (map by.values es)
+mapped by (Call x callee es) = Call (by.variables x) (by.operands callee) (by.each es)
 mapped by (Return e) = Return (by.values e)
 mapped by Stop = Stop
 mapped by (Assume es exit) = Assume (by.predicates es) (by.exits exit)

@@ -29,6 +29,7 @@ renaming by = record {
   variables = by.variables;
   operands = renamed_simple by;
   values = renamed_expr by;
+  each = map (renamed_expr by);
   predicates = map (renamed_expr by);
   exits = renamed_exit by;
 }

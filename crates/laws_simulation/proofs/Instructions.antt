@@ -55,10 +55,6 @@ jump-cases P labels same branch jump (Return e) = same (Return e) refl
 jump-cases P labels same branch jump Stop = same Stop refl
 jump-cases P labels same branch jump (Assume es exit) = same (Assume es exit) refl
 
--- if jumps go where they went, the instruction stays
-pub jumps-same : (instr : Instr) → with_jumps (λ label. label) instr ≡ instr
-jumps-same = jump-cases (λ old new. new ≡ old) (λ label. label) (λ instr none. refl) (λ e a b. refl) (λ a. refl)
-
 -- what holds of an instruction and itself, and at one label of the changed one, holds of it and what stands there
 pub changed_at-cases : (P : Instr → Instr → Type 0) (at : List ℕ) (change : Instr → Instr) (label : List ℕ)
     (instr : Instr) → P instr instr

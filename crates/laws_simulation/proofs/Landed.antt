@@ -11,10 +11,10 @@ use Rattle.sour_syntax.specs.Program.{ProgramView}
 use Rattle.sour_semantics.specs.State.{Heap, Frame, FrameCode}
 use Rattle.sour_semantics.specs.Evaluation.{eval_each, in_front}
 use Rattle.sour_semantics.specs.Step.{body_of, exit_code, bound, landed, landed_frame, landed_frames}
+use Rattle.laws_renaming.proofs.Mapped.{mapped-same}
 use Rattle.laws_simulation.specs.Carry.{Carrying, back, back_code, back_label, back_frames, IsCarried, LandsAlike, AllLandAlike}
 use Rattle.laws_simulation.specs.Instructions.{with_jumps}
 use Rattle.laws_simulation.specs.Laws.{AlikeLandsBack}
-use Rattle.laws_simulation.proofs.Instructions.{jumps-same}
 
 -- an old continuation that lands alike makes of the same values the frame for which the new one's stands
 landed-alike : (program : ProgramView) (by : Carrying) (code : FrameCode) (c d : Continuation)
@@ -102,5 +102,5 @@ module _ (program : ProgramView) (by : Carrying) (frame : Frame) where
       → IsCarried program by frame instr instr
   carried-stays instr labels alike =
       let Carried : Instr → Type 0 = λ new. IsCarried program by frame new instr in
-      subst Carried (jumps-same instr) (carried-jumps (λ label. label) instr alike
+      subst Carried (mapped-same instr) (carried-jumps (λ label. label) instr alike
       (everywhere _ labels (named_labels instr)))
