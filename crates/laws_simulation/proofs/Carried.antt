@@ -18,7 +18,7 @@ use Rattle.sour_semantics.specs.State.{Frame}
 use Rattle.sour_semantics.specs.Evaluation.{number_in, truth_in, operand, eval, eval_each, holds_each}
 use Rattle.sour_semantics.specs.Text.{value_text}
 use Rattle.sour_semantics.specs.Step.{cell_limit, count_heap, output_limit, is_anchor, landed_frames}
-use Rattle.laws_simulation.specs.Effect.{World, Deed, goes, asks, gives, lands, finishes, Effect, tried, does_read, does_make, does_make_empty, does_write, does_write_array, does_write_cell, does_print, does_branch, does_assume, does_try, without_turn, with_turn, effect}
+use Rattle.laws_effects.specs.Effect.{World, Deed, goes, asks, gives, lands, finishes, Effect, tried, does_read, does_make, does_make_empty, does_write, does_write_array, does_write_cell, does_print, does_branch, does_assume, does_try, without_turn, with_turn, effect}
 use Rattle.laws_simulation.specs.Ties.{AreTied, AreTiedDeeds, AreTiedEffects}
 use Rattle.laws_simulation.specs.Carry.{Carrying, back, back_label, back_deed, back_effect, back_frames, LandsBack, IsCarried}
 use Rattle.laws_simulation.specs.Carries.{FactsOf, TiesBack}

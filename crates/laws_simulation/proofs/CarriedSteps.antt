@@ -23,10 +23,10 @@ use Rattle.sour_semantics.proofs.Places.{lines_of-body}
 use Rattle.laws_validity.proofs.Bodies.{depth, Leads, IsBodyOf-code}
 use Rattle.laws_validity.proofs.Frames.{StandsBefore-frame}
 use Rattle.laws_validity.proofs.Reached.{reached}
-use Rattle.laws_simulation.specs.Effect.{World, world_of, Deed, goes, asks, gives, lands, finishes, Effect, tried, effect}
+use Rattle.laws_effects.specs.Effect.{World, world_of, Deed, goes, asks, gives, lands, finishes, Effect, tried, effect}
 use Rattle.laws_simulation.specs.Ties.{resumed, IsTie, StepsAreFollowed}
-use Rattle.laws_simulation.specs.Onward.{IsDeedOf}
-use Rattle.laws_simulation.proofs.Onward.{effect-is}
+use Rattle.laws_effects.specs.Onward.{IsDeedOf}
+use Rattle.laws_effects.proofs.Onward.{effect-is}
 use Rattle.laws_simulation.specs.Carry.{Carrying, back, back_code, back_label, IsCarried, LandsAlike, AllLandAlike}
 use Rattle.laws_simulation.specs.Carries.{IsOf, FactsOf, TiesBack, StandsBy, StandsAt, GoesOnAs, made_frame, Carries, StepsBack, IsFollowedFrom, OwesLines}
 use Rattle.laws_simulation.proofs.Carried.{carried-effect, tied-effect}
@@ -169,7 +169,7 @@ module _ (program : ProgramView) (checked : IsProgram program) (new : List BodyV
         known-after frame s.heap line.instr (first_label rest) e.deed known
         (is-there frame.code valid.body (of-stands frame.code frame known) valid.runs)
         (frame-leads (length s.heap) frame line rest valid free stands) steps.onward
-        (effect-is program frame (first_label rest) (world_of s) leaves line.instr) in
+        (effect-is program frame (first_label rest) (world_of s) leaves line.instr).does in
         lines-follow program Ties is leaves frame (back by frame) news olds s (within _ _ (known, refl)) below
         (record {
           line = line;

@@ -14,16 +14,16 @@ use Rattle.sour_semantics.specs.Validity.{IsValidFrame}
 use Rattle.sour_semantics.specs.Agreement.{IsLawful}
 use Rattle.laws_simulation.specs.Carries.{GoesOnAs, StepsBack}
 use Rattle.laws_simulation.specs.Carry.{back, back_effect}
-use Rattle.laws_simulation.specs.Effect.{World, world_of, Effect, effect}
+use Rattle.laws_effects.specs.Effect.{World, world_of, Effect, effect}
 use Rattle.laws_simulation.specs.Facts.{KeepsFacts, RelinedIsLawful}
-use Rattle.laws_simulation.specs.Onward.{IsDeedOf}
+use Rattle.laws_effects.specs.Onward.{IsDeedOf}
 use Rattle.laws_simulation.specs.Relined.{relined, relined_body, WasLine}
 use Rattle.laws_simulation.specs.Tops.{with_top, with_last, TopChange, old_bodies, new_bodies, by_top, TopStands, TopTie, top_frame, OwesTop}
 use Rattle.laws_simulation.proofs.Carried.{carried-effect}
 use Rattle.laws_simulation.proofs.CarriedSteps.{carried-is_tie, stay-alike}
 use Rattle.laws_simulation.proofs.GoesOn.{goes-on-so}
 use Rattle.laws_simulation.proofs.Landed.{carried-stays}
-use Rattle.laws_simulation.proofs.Onward.{effect-is}
+use Rattle.laws_effects.proofs.Onward.{effect-is}
 use Rattle.laws_simulation.proofs.Relined.{first_label-relined, was-line}
 use Rattle.laws_simulation.proofs.TopRuns.{top-carries, top-label, top-stay, top-lines, old-lines, top-lawful}
 use Rattle.laws_simulation.proofs.Tops.{made-last, split-last, with_last-top}
@@ -86,14 +86,14 @@ module _ (program : ProgramView) (checked : IsProgram program) (change : List â„
         rest = rest;
         stands = stands;
         does =
-            effect-is program frame (first_label rest) world leaves instr;
+            (effect-is program frame (first_label rest) world leaves instr).does;
       })
       (record {
         line = old;
         rest = others;
         stands = there;
         does =
-            subst Does equals (effect-is program frame (first_label others) world owed.0 old.instr);
+            subst Does equals (effect-is program frame (first_label others) world owed.0 old.instr).does;
       }) in
       record {
         other = old;

@@ -5,10 +5,10 @@ use Rattle.sour_syntax.specs.BodyView.{BodyView}
 use Rattle.sour_syntax.specs.Program.{ProgramView}
 use Rattle.sour_syntax.specs.Scopes.{following_labels}
 use Rattle.sour_semantics.specs.State.{Frame}
-use Rattle.laws_simulation.specs.Effect.{World, Deed, goes, asks, gives, lands, finishes, effect}
+use Rattle.laws_effects.specs.Effect.{World, Deed, goes, asks, gives, lands, finishes, effect}
 use Rattle.laws_simulation.specs.Carries.{StandsBy, StandsAt, GoesOnAs}
-use Rattle.laws_simulation.specs.Onward.{IsDeedOf}
-use Rattle.laws_simulation.proofs.Onward.{effect-is}
+use Rattle.laws_effects.specs.Onward.{IsDeedOf}
+use Rattle.laws_effects.proofs.Onward.{effect-is}
 
 -- of the frame that goes on or waits nothing has to be known
 abbrev pub Any : Frame → Type 0
@@ -48,7 +48,7 @@ pub goes-on-labels : (program : ProgramView) (new : List BodyView) (Stands : ℕ
     → StandsBy new Stands frame.code other)
     → GoesOnAs (StandsAt new Stands) frame (effect program leaves frame world instr next).deed
 goes-on-labels program new Stands frame world leaves instr next all =
-    by-deed (effect program leaves frame world instr next).deed (effect-is program frame next world leaves instr)
+    by-deed (effect program leaves frame world instr next).deed (effect-is program frame next world leaves instr).does
   where
     -- by what the instruction does
     by-deed : (deed : Deed) → IsDeedOf program frame world.heap instr next deed

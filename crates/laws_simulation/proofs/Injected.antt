@@ -8,7 +8,7 @@ use Rattle.sour_syntax.proofs.NoExits.{label-from_label}
 use Rattle.sour_semantics.specs.State.{Frame}
 use Rattle.sour_semantics.specs.Step.{is_anchor}
 use Rattle.sour_semantics.specs.Shape.{IsEqualityTest}
-use Rattle.laws_simulation.specs.Effect.{World, effect}
+use Rattle.laws_effects.specs.Effect.{World, effect}
 use Rattle.laws_simulation.specs.Inject.{with_predicate, InjectedIsLawful}
 use Rattle.laws_simulation.specs.Instructions.{changed_at}
 use Rattle.laws_simulation.proofs.FactRuns.{relined_is_lawful}

@@ -11,7 +11,7 @@ use Rattle.sour_syntax.specs.Jumps.{named_labels}
 use Rattle.sour_syntax.specs.Program.{ProgramView}
 use Rattle.sour_syntax.specs.Terminator.{IsTerminator}
 use Rattle.sour_semantics.specs.State.{Frame}
-use Rattle.laws_simulation.specs.Effect.{World, effect}
+use Rattle.laws_effects.specs.Effect.{World, effect}
 use Rattle.laws_simulation.specs.Instructions.{with_assume, with_jumps, changed_at}
 
 -- what holds of each instruction that never leaves and itself, and of assumes, holds of each and the changed one

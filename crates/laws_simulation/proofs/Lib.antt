@@ -1,5 +1,3 @@
-pub mod Effects
-pub mod Onward
 pub mod Following
 pub mod Tied
 pub mod LawfulRuns

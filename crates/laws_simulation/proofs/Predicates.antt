@@ -16,7 +16,7 @@ use Rattle.sour_semantics.specs.State.{Environment, Heap, Frame}
 use Rattle.sour_semantics.specs.Evaluation.{eval, holds_each, holds_before, and_then, truth_in, operand, is_same, applied}
 use Rattle.sour_semantics.specs.Step.{is_anchor}
 use Rattle.sour_semantics.specs.Shape.{IsEqualityTest, IsEquality}
-use Rattle.laws_simulation.specs.Effect.{World, does_try, effect}
+use Rattle.laws_effects.specs.Effect.{World, does_try, effect}
 
 -- two predicates one after the other, of which the second gives this
 abbrev pub also : Result Bool Trap → Bool → Result Bool Trap

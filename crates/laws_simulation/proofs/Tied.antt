@@ -8,13 +8,13 @@ use Rattle.sour_syntax.specs.BodyView.{BodyView}
 use Rattle.sour_syntax.specs.Labels.{from_label, first_label}
 use Rattle.sour_syntax.specs.Program.{ProgramView}
 use Rattle.sour_semantics.specs.State.{Frame, text, State, Ending}
-use Rattle.sour_semantics.specs.Step.{Choice, text_version, enters, calls, resumes, returns, step, act_first, lines_of, body_at, takes_turn}
+use Rattle.sour_semantics.specs.Step.{Choice, text_version, enters, calls, resumes, returns, step, act_first, lines_of, body_at}
 use Rattle.sour_semantics.specs.Validity.{IsValid}
 use Rattle.sour_semantics.specs.Agreement.{free_choice, free_run, Match}
 use Rattle.laws_validity.proofs.States.{going}
-use Rattle.laws_simulation.specs.Effect.{world_of, Deed, goes, asks, gives, lands, finishes, Effect, effect, done, counted, applied_to}
+use Rattle.laws_effects.specs.Effect.{world_of, Deed, goes, asks, gives, lands, finishes, Effect, effect, done, counted, applied}
 use Rattle.laws_simulation.specs.Ties.{AreTied, IsTie, AreFollowing, AreTiedDeeds, AreTiedEffects, LinesAgree, StepsAreFollowed}
-use Rattle.laws_simulation.proofs.Effects.{acts_by_effect}
+use Rattle.laws_effects.proofs.Effects.{acts_by_effect}
 
 -- frames tied by one relation are tied by every relation that it implies
 tied-frames-more : (Ties More : Frame → Frame → Type 0) → ((f g : Frame) → Ties f g → More f g)
@@ -115,57 +115,47 @@ module _ (program : ProgramView) (Ties : Frame → Frame → Type 0) (is : IsTie
   follow-done : (new old : Frame) (news olds : List Frame) (deed other : Deed) (s : State) → Ties new old
       → AreTied Ties news olds
       → AreTiedDeeds Ties new old deed other
-      → AreFollowing Ties (done program text_version new news deed (going (new ∷ news) s))
-      (done program text_version old olds other (going (old ∷ olds) s))
+      → AreFollowing Ties (done program text_version deed (going (new ∷ news) s))
+      (done program text_version other (going (old ∷ olds) s))
   follow-done new old news olds (goes label environment world) other s tie below deeds =
       let Does : Deed → Type 0 = λ d. AreFollowing Ties
-      (done program text_version new news (goes label environment world) (going (new ∷ news) s))
-      (done program text_version old olds d (going (old ∷ olds) s)) in
+      (done program text_version (goes label environment world) (going (new ∷ news) s))
+      (done program text_version d (going (old ∷ olds) s)) in
       subst Does (sym deeds.2) (record { same = refl; frames = (deeds.3, below) })
   follow-done new old news olds (asks x f values next) other s tie below deeds =
       let Does : Deed → Type 0 = λ d. AreFollowing Ties
-      (done program text_version new news (asks x f values next) (going (new ∷ news) s))
-      (done program text_version old olds d (going (old ∷ olds) s)) in
+      (done program text_version (asks x f values next) (going (new ∷ news) s))
+      (done program text_version d (going (old ∷ olds) s)) in
       subst Does (sym deeds.1) (follow-calls new old news olds x f values next deeds.0 s tie below deeds.2)
   follow-done new old news olds (gives value) other s tie below deeds =
       let Does : Deed → Type 0 = λ d. AreFollowing Ties
-      (done program text_version new news (gives value) (going (new ∷ news) s))
-      (done program text_version old olds d (going (old ∷ olds) s)) in
+      (done program text_version (gives value) (going (new ∷ news) s))
+      (done program text_version d (going (old ∷ olds) s)) in
       subst Does (sym deeds) (follow-returns value new old news olds s tie below)
   follow-done new old news olds (lands tops) other s tie below deeds =
       let Does : Deed → Type 0 = λ d. AreFollowing Ties
-      (done program text_version new news (lands tops) (going (new ∷ news) s))
-      (done program text_version old olds d (going (old ∷ olds) s)) in
+      (done program text_version (lands tops) (going (new ∷ news) s))
+      (done program text_version d (going (old ∷ olds) s)) in
       subst Does (sym deeds.1) (record
       { same = refl; frames = AreTied-append Ties tops deeds.0 news olds deeds.2 below })
   follow-done new old news olds (finishes ending) other s tie below deeds =
       let Does : Deed → Type 0 = λ d. AreFollowing Ties
-      (done program text_version new news (finishes ending) (going (new ∷ news) s))
-      (done program text_version old olds d (going (old ∷ olds) s)) in
+      (done program text_version (finishes ending) (going (new ∷ news) s))
+      (done program text_version d (going (old ∷ olds) s)) in
       subst Does (sym deeds) (record { same = refl; frames = (tie, below) })
-
-  -- so are they after a turn
-  follow-counted : (new old : Frame) (news olds : List Frame) (turn : Bool) (deed other : Deed) (s : State)
-      → Ties new old → AreTied Ties news olds
-      → AreTiedDeeds Ties new old deed other
-      → AreFollowing Ties (done program text_version new news deed (counted turn (going (new ∷ news) s)))
-      (done program text_version old olds other (counted turn (going (old ∷ olds) s)))
-  follow-counted new old news olds true deed other s tie below deeds =
-      follow-done new old news olds deed other (takes_turn s) tie below deeds
-  follow-counted new old news olds false deed other s tie below deeds =
-      follow-done new old news olds deed other s tie below deeds
 
   -- tied effects, applied
   follow-applied : (new old : Frame) (news olds : List Frame) (e other : Effect) (s : State) → Ties new old
       → AreTied Ties news olds
       → AreTiedEffects Ties new old e other
-      → AreFollowing Ties (applied_to program text_version new news e (going (new ∷ news) s))
-      (applied_to program text_version old olds other (going (old ∷ olds) s))
+      → AreFollowing Ties (applied program text_version e (going (new ∷ news) s))
+      (applied program text_version other (going (old ∷ olds) s))
   follow-applied new old news olds e other s tie below tied =
       let Turns : Bool → Type 0 = λ turn. AreFollowing Ties
-      (applied_to program text_version new news e (going (new ∷ news) s))
-      (done program text_version old olds other.deed (counted turn (going (old ∷ olds) s))) in
-      subst Turns (sym tied.turn) (follow-counted new old news olds e.turn e.deed other.deed s tie below tied.deeds)
+      (applied program text_version e (going (new ∷ news) s))
+      (applied program text_version (record { turn = turn; deed = other.deed }) (going (old ∷ olds) s)) in
+      subst Turns (sym tied.turn)
+      (follow-done new old news olds e.deed other.deed (record s { turns = counted e.turn s.turns }) tie below tied.deeds)
 
   -- a state that has ended, or has no frames, stays
   follow-parts : StepsAreFollowed program Ties → (leaves : Bool) (ending : Option Ending) (news olds : List Frame)
@@ -209,7 +199,7 @@ pub step-line : (program : ProgramView) (choice : Choice) (frame : Frame) (frame
     (rest : List Line) (s : State)
     → from_label frame.label (lines_of program frame.code) ≡ line ∷ rest
     → step program choice (going (frame ∷ frames) s)
-    ≡ applied_to program choice.entry frame frames
+    ≡ applied program choice.entry
     (effect program choice.leaves frame (world_of s) line.instr (first_label rest)) (going (frame ∷ frames) s)
 step-line program choice frame frames line rest s stands =
     ap (λ left. act_first program choice frame left (going (frame ∷ frames) s)) stands
@@ -225,17 +215,17 @@ lines-follow program Ties is leaves new old news olds s tie below agree =
     let New : State → Type 0 = λ t. AreFollowing Ties t
     (step program (free_choice agree.told) (going (old ∷ olds) s)) in
     let one : AreFollowing Ties
-    (applied_to program text_version new news
+    (applied program text_version
     (effect program leaves new (world_of s) agree.line.instr (first_label agree.rest)) (going (new ∷ news) s))
-    (applied_to program text_version old olds
+    (applied program text_version
     (effect program agree.told old (world_of s) agree.other.instr (first_label agree.others))
     (going (old ∷ olds) s)) =
     follow-applied program Ties is new old news olds _ _ s tie below agree.effects in
     let Old : State → Type 0 = λ t. AreFollowing Ties
-    (applied_to program text_version new news
+    (applied program text_version
     (effect program leaves new (world_of s) agree.line.instr (first_label agree.rest)) (going (new ∷ news) s)) t in
     let both : AreFollowing Ties
-    (applied_to program text_version new news
+    (applied program text_version
     (effect program leaves new (world_of s) agree.line.instr (first_label agree.rest)) (going (new ∷ news) s))
     (step program (free_choice agree.told) (going (old ∷ olds) s)) =
     subst Old (sym

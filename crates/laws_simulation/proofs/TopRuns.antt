@@ -16,7 +16,7 @@ use Rattle.sour_semantics.specs.Validity.{IsValidFrame}
 use Rattle.sour_semantics.specs.Agreement.{IsLawful}
 use Rattle.laws_simulation.specs.Carries.{made_frame, Carries, StepsBack, IsFollowedFrom, OwesLines}
 use Rattle.laws_simulation.specs.Carry.{back, back_code, back_label}
-use Rattle.laws_simulation.specs.Effect.{world_of}
+use Rattle.laws_effects.specs.Effect.{world_of}
 use Rattle.laws_simulation.specs.Ties.{IsTie, resumed}
 use Rattle.laws_simulation.specs.Tops.{with_top, TopChange, old_bodies, new_bodies, by_top, TopStands, TopTie, OwesTop, AtLabel}
 use Rattle.laws_simulation.proofs.CarriedSteps.{number-within, same-back, carried-steps}

@@ -10,7 +10,7 @@ use Rattle.sour_semantics.specs.State.{Environment, Frame, FrameCode, text, made
 use Rattle.sour_semantics.specs.Step.{body_of, lines_of, step}
 use Rattle.sour_semantics.specs.Validity.{IsValidFrame}
 use Rattle.sour_semantics.specs.Agreement.{free_choice, free_run}
-use Rattle.laws_simulation.specs.Effect.{World, world_of, Deed, goes, asks, gives, lands, finishes, effect}
+use Rattle.laws_effects.specs.Effect.{World, world_of, Deed, goes, asks, gives, lands, finishes, effect}
 use Rattle.laws_simulation.specs.Ties.{AreTied, AreFollowing, resumed}
 use Rattle.laws_simulation.specs.Carry.{Carrying, back, back_effect}
 

@@ -8,7 +8,7 @@ use Rattle.sour_syntax.specs.Exits.{Continuation, continuations}
 use Rattle.sour_syntax.specs.Program.{ProgramView}
 use Rattle.sour_semantics.specs.State.{Heap, Frame, FrameCode, text, made}
 use Rattle.sour_semantics.specs.Step.{body_of, exit_code, landed_frames}
-use Rattle.laws_simulation.specs.Effect.{Deed, goes, asks, gives, lands, finishes, Effect}
+use Rattle.laws_effects.specs.Effect.{Deed, goes, asks, gives, lands, finishes, Effect}
 
 -- by the number of a body of the new bundle the code for which it stands, and for each of its labels that code's label
 pub record Carrying : Type 0 where

@@ -13,9 +13,9 @@ use Rattle.sour_semantics.specs.Shape.{IsMadeBody, HasShape}
 use Rattle.sour_semantics.specs.Validity.{IsValidFrame}
 use Rattle.sour_semantics.specs.Agreement.{IsLawful}
 use Rattle.laws_simulation.specs.Carries.{GoesOnAs}
-use Rattle.laws_simulation.specs.Effect.{World, Deed, effect}
+use Rattle.laws_effects.specs.Effect.{World, Deed, effect}
 use Rattle.laws_simulation.specs.Relined.{relined_body}
-use Rattle.laws_simulation.specs.Onward.{IsDeedOf}
+use Rattle.laws_effects.specs.Onward.{IsDeedOf}
 use Rattle.laws_simulation.specs.Ties.{resumed}
 use Rattle.laws_simulation.specs.Tops.{with_last}
 

@@ -1,27 +1,13 @@
 -- What the kit says of the effects of instructions.
-use Rattle.std.specs.Prelude.{◌≡◌, ℕ, List, ◌∷◌, Bool, None}
+use Rattle.std.specs.Prelude.{◌≡◌, ℕ, List, Bool}
 use Rattle.sour_syntax.specs.declared.exit.Exit.{Exit}
 use Rattle.sour_syntax.specs.declared.instruction.Instr.{Instr}
 use Rattle.sour_syntax.specs.Exits.{continuations}
 use Rattle.sour_syntax.specs.Program.{ProgramView}
-use Rattle.sour_semantics.specs.State.{Frame, State}
-use Rattle.sour_semantics.specs.Step.{Choice, act, is_anchor}
+use Rattle.sour_semantics.specs.State.{Frame}
+use Rattle.sour_semantics.specs.Step.{is_anchor}
+use Rattle.laws_effects.specs.Effect.{World, effect}
 use Rattle.laws_simulation.specs.Carry.{Carrying, back, back_label, back_effect, LandsBack, IsCarried, AllLandAlike}
-use Rattle.laws_simulation.specs.Effect.{World, world_of, effect, applied_to}
-use Rattle.laws_simulation.specs.Onward.{IsDeedOf}
-
--- an instruction is its effect, applied
-abbrev pub ActsByEffect : Type 0
-ActsByEffect = (program : ProgramView) (choice : Choice) (frame : Frame) (frames : List Frame) (instr : Instr)
-    (next : List ℕ) (s : State)
-    → act program choice frame instr next (record s { frames = frame ∷ frames; ending = None })
-    ≡ applied_to program choice.entry frame frames (effect program choice.leaves frame (world_of s) instr next)
-    (record s { frames = frame ∷ frames; ending = None })
-
--- the deed of an effect is one of the instruction
-abbrev pub DoesItsDeed : Type 0
-DoesItsDeed = (program : ProgramView) (frame : Frame) (next : List ℕ) (world : World) (told : Bool) (instr : Instr)
-    → IsDeedOf program frame world.heap instr next (effect program told frame world instr next).deed
 
 -- the effect of a carried instruction is that of the old one
 abbrev pub CarriesEffect : Type 0

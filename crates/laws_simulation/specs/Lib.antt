@@ -1,5 +1,3 @@
-pub mod Effect
-pub mod Onward
 pub mod Following
 pub mod Ties
 pub mod Carry

@@ -10,7 +10,7 @@ use Rattle.sour_semantics.specs.State.{Environment, Frame, text, State}
 use Rattle.sour_semantics.specs.Step.{entered_frame, lines_of, step}
 use Rattle.sour_semantics.specs.Validity.{IsValid}
 use Rattle.sour_semantics.specs.Agreement.{free_choice, free_run}
-use Rattle.laws_simulation.specs.Effect.{World, Deed, goes, asks, gives, lands, finishes, Effect, effect}
+use Rattle.laws_effects.specs.Effect.{World, Deed, goes, asks, gives, lands, finishes, Effect, effect}
 
 -- frames are tied one by one
 abbrev pub AreTied : (Frame → Frame → Type 0) → List Frame → List Frame → Type 0

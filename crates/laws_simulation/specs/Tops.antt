@@ -10,7 +10,7 @@ use Rattle.sour_semantics.specs.State.{Environment, Frame, made, State, BundleVi
 use Rattle.sour_semantics.specs.Validity.{IsValidFrame}
 use Rattle.laws_simulation.specs.Carries.{TiesBack, StandsAt, made_frame, StepsBack, IsFollowedFrom}
 use Rattle.laws_simulation.specs.Carry.{Carrying, back}
-use Rattle.laws_simulation.specs.Effect.{world_of}
+use Rattle.laws_effects.specs.Effect.{world_of}
 use Rattle.laws_simulation.specs.Ties.{resumed}
 
 -- the bundle of a function with these bodies below its top

@@ -3,21 +3,9 @@
 //! are lemmas, which passes cite; each of the others is the contract of a function that does nothing.
 #![tactic(auto)]
 
-ghost use Rattle.laws_simulation.specs.Laws.{ActsByEffect, DoesItsDeed, CarriesEffect, AlikeLandsBack};
+ghost use Rattle.laws_simulation.specs.Laws.{CarriesEffect, AlikeLandsBack};
 ghost use Rattle.laws_simulation.specs.Inject.{InjectedIsLawful};
 ghost use Rattle.laws_simulation.specs.Renumbered.{RenumberedIsCarried};
-
-/// An instruction is its effect, applied: what it does to its own frame and to the world, apart from the frames
-/// below.
-pub fn acts_by_effect()
-    ensures { ActsByEffect }
-{}
-
-/// What an instruction does to its frame is one of the deeds that it may do: if the frame goes on, then at a
-/// label that may follow, with the environment that the instruction makes.
-pub fn does_its_deed()
-    ensures { DoesItsDeed }
-{}
 
 /// Code that differs from other code in labels and exits alone, by a map of both, does what that code does.
 pub fn carries_effect()

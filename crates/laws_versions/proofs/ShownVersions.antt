@@ -13,6 +13,7 @@ use Rattle.sour_semantics.specs.Run.{start, text_run, IsAtBudget, TextAt}
 use Rattle.sour_semantics.specs.Agreement.{IsShownFrom}
 use Rattle.sour_semantics.specs.Block.{BlockEnd, block_end, end_text, block}
 use Rattle.sour_semantics.proofs.Runs.{text_run-suc}
+use Rattle.laws_effects.specs.Onward.{Grows}
 use Rattle.laws_runs.proofs.RunRests.{text_run-ended, text_run-add, turns-text_run}
 use Rattle.laws_agreement.specs.Laws.{IsLawfulEntry}
 use Rattle.laws_agreement.proofs.ShownRuns.{runs_are_shown}
@@ -23,7 +24,7 @@ use Rattle.sour_versions.specs.MayShow.{IsDoneWithin, text_after, MayShow}
 use Rattle.laws_versions.specs.ShownLaws.{VersionRunsAreShown, block_of, VersionRunsMayShow, TextMayShow}
 use Rattle.laws_versions.specs.ShownLaws.{AllTextMayShow}
 use Rattle.laws_versions.specs.ShownLaws.{CutShowsText}
-use Rattle.laws_versions.proofs.StepEffects.{Grows, grows-same, grows-on, IsStill, still-step, grows-still}
+use Rattle.laws_versions.proofs.StepEffects.{grows-same, grows-on, IsStill, still-step, grows-still}
 use Rattle.laws_versions.proofs.VersionRuns.{turns-step, version_run-add, turns_within}
 use Rattle.laws_versions.proofs.ChosenVersions.{choices_in, run-chosen, holds-choices}
 

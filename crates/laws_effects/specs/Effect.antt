@@ -13,12 +13,14 @@ use Rattle.sour_syntax.specs.declared.literal.Value.TheVariants.{Plain, Array}
 use Rattle.sour_syntax.specs.declared.literal.VarId.{VarId}
 use Rattle.sour_syntax.specs.declared.trap.Trap.{Trap}
 use Rattle.sour_syntax.specs.declared.trap.Trap.TheVariants.{BadType, Bounds, HeapFull, InputEnd, OutputFull}
+use Rattle.sour_syntax.specs.declared.instruction.Line.{Line}
 use Rattle.sour_syntax.specs.Exits.{continuations}
+use Rattle.sour_syntax.specs.Labels.{from_label, first_label}
 use Rattle.sour_syntax.specs.Program.{ProgramView}
-use Rattle.sour_semantics.specs.State.{Environment, Heap, Frame, Ending, stopped, trapped, State}
+use Rattle.sour_semantics.specs.State.{Environment, Heap, Frame, Ending, stopped, trapped, stuck, State}
 use Rattle.sour_semantics.specs.Evaluation.{number_in, truth_in, function_in, operand, eval, eval_each, holds_each}
 use Rattle.sour_semantics.specs.Text.{value_text}
-use Rattle.sour_semantics.specs.Step.{Entry, cell_limit, count_heap, next_array, output_limit, landed_frames, is_anchor, ends, takes_turn, calls, returns}
+use Rattle.sour_semantics.specs.Step.{Entry, cell_limit, count_heap, next_array, output_limit, landed_frames, is_anchor, ends, calls, returns, replaces_top, lines_of}
 
 -- what a run has beside its frames, its turns and its end
 pub record World : Type 0 where
@@ -167,24 +169,57 @@ effect program told frame world Stop next = without_turn (finishes stopped)
 effect program told frame world (Assume es exit) next =
     does_try program frame exit next world (told && is_anchor frame.label) (holds_each frame.environment world.heap es)
 
+-- the top frame goes on at a label with an environment
+abbrev pub moved_top : List ℕ → Environment → List Frame → List Frame
+moved_top label environment [] = []
+moved_top label environment (frame ∷ frames) = record frame { label = label; environment = environment } ∷ frames
+
 -- a deed of the top frame, done
-abbrev pub done : ProgramView → Entry → Frame → List Frame → Deed → State → State
-done program entry frame frames (goes label environment world) s = record s {
-  frames = record frame { label = label; environment = environment } ∷ frames;
+abbrev pub done : ProgramView → Entry → Deed → State → State
+done program entry (goes label environment world) s = record s {
+  frames = moved_top label environment s.frames;
   heap = world.heap;
   rest = world.rest;
   output = world.output;
 }
-done program entry frame frames (asks x f values next) s = calls program entry x f values next s
-done program entry frame frames (gives value) s = returns value (frame ∷ frames) s
-done program entry frame frames (lands tops) s = record s { frames = tops ++ frames }
-done program entry frame frames (finishes ending) s = ends ending s
+done program entry (asks x f values next) s = calls program entry x f values next s
+done program entry (gives value) s = returns value s.frames s
+done program entry (lands tops) s = record s { frames = replaces_top tops s.frames }
+done program entry (finishes ending) s = ends ending s
 
--- a turn is taken, or none
-abbrev pub counted : Bool → State → State
-counted true s = takes_turn s
-counted false s = s
+-- so many turns were taken, after a turn more or none
+abbrev pub counted : Bool → ℕ → ℕ
+counted true turns = turns + 1
+counted false turns = turns
 
 -- an effect of the top frame, applied
-abbrev pub applied_to : ProgramView → Entry → Frame → List Frame → Effect → State → State
-applied_to program entry frame frames e s = done program entry frame frames e.deed (counted e.turn s)
+abbrev pub applied : ProgramView → Entry → Effect → State → State
+applied program entry e s = done program entry e.deed (record s { turns = counted e.turn s.turns })
+
+-- what the first of the lines that are left does; if there is none, the run ends
+abbrev pub effect_first : ProgramView → Bool → Frame → World → List Line → Effect
+effect_first program told frame world [] = without_turn (finishes stuck)
+effect_first program told frame world (line ∷ lines) = effect program told frame world line.instr (first_label lines)
+
+-- what the top frame does
+abbrev pub effect_top : ProgramView → Bool → World → List Frame → Effect
+effect_top program told world [] = without_turn (finishes stuck)
+effect_top program told world (frame ∷ frames) =
+    effect_first program told frame world (from_label frame.label (lines_of program frame.code))
+
+-- what a run does; one that has ended does nothing more
+abbrev pub effect_unless : ProgramView → Bool → World → List Frame → Option Ending → Effect
+effect_unless program told world frames None = effect_top program told world frames
+effect_unless program told world frames (Some ending) = without_turn (finishes ending)
+
+-- what a run does next
+abbrev pub effect_next : ProgramView → Bool → State → Effect
+effect_next program told s = effect_unless program told (world_of s) s.frames s.ending
+
+-- the output that a deed leaves
+abbrev pub output_after : Deed → List ℕ → List ℕ
+output_after (goes label environment world) output = world.output
+output_after (asks x f values next) output = output
+output_after (gives value) output = output
+output_after (lands frames) output = output
+output_after (finishes ending) output = output

@@ -16,46 +16,47 @@ use Rattle.sour_semantics.specs.State.{Frame, State}
 use Rattle.sour_semantics.specs.Evaluation.{number_in, truth_in, operand, eval, eval_each, holds_each}
 use Rattle.sour_semantics.specs.Text.{value_text}
 use Rattle.sour_semantics.specs.Step.{Entry, given, reads, makes, makes_empty, cell_limit, count_heap, writes, writes_array, writes_cell, prints, output_limit, takes_turn, takes_exit_turn, is_anchor, branches, landed_frames, leaves, assumes}
-use Rattle.laws_validity.proofs.States.{going}
-use Rattle.laws_simulation.specs.Effect.{world_of, Deed, lands, tried, does_read, does_make, does_make_empty, does_write, does_write_array, does_write_cell, does_print, does_branch, does_assume, does_try, done, counted, applied_to}
-use Rattle.laws_simulation.specs.Laws.{ActsByEffect}
+use Rattle.laws_effects.specs.Effect.{world_of, Deed, lands, tried, does_read, does_make, does_make_empty, does_write, does_write_array, does_write_cell, does_print, does_branch, does_assume, does_try, done, applied}
+use Rattle.laws_effects.specs.Laws.{ActsByEffect}
 
--- whether or not a value comes
-tried-given : {A : Type 0} (program : ProgramView) (entry : Entry) (frame : Frame) (frames : List Frame)
-    (r : Result A Trap) (onward : A → State) (deeds : A → Deed) (s : State)
-    → ((value : A) → onward value ≡ done program entry frame frames (deeds value) s)
-    → given r onward s ≡ done program entry frame frames (tried r deeds) s
-tried-given program entry frame frames (Ok value) onward deeds s ok = ok value
-tried-given program entry frame frames (Err trap) onward deeds s ok = refl
+-- the state with these frames, of a run that goes on
+abbrev going : List Frame → State → State
+going frames s = record s { frames = frames; ending = None }
 
--- a deed that a test decides
-done-cond : (program : ProgramView) (entry : Entry) (frame : Frame) (frames : List Frame) (b : Bool) (s t : State)
-    (d e : Deed) (u : State)
-    → s ≡ done program entry frame frames d u → t ≡ done program entry frame frames e u
-    → cond b s t ≡ done program entry frame frames (cond b d e) u
-done-cond program entry frame frames true s t d e u h k = h
-done-cond program entry frame frames false s t d e u h k = k
+module _ (program : ProgramView) (entry : Entry) where
+  -- whether or not a value comes
+  tried-given : {A : Type 0} (r : Result A Trap) (onward : A → State) (deeds : A → Deed) (s : State)
+      → ((value : A) → onward value ≡ done program entry (deeds value) s)
+      → given r onward s ≡ done program entry (tried r deeds) s
+  tried-given (Ok value) onward deeds s ok = ok value
+  tried-given (Err trap) onward deeds s ok = refl
+
+  -- a deed that a test decides
+  done-cond : (b : Bool) (s t : State) (d e : Deed) (u : State) → s ≡ done program entry d u
+      → t ≡ done program entry e u → cond b s t ≡ done program entry (cond b d e) u
+  done-cond true s t d e u h k = h
+  done-cond false s t d e u h k = k
 
 module _ (program : ProgramView) (entry : Entry) (frame : Frame) (frames : List Frame) (next : List ℕ) where
   -- a literal is read
   done-read : (x : VarId) (rest : List Literal) (s : State)
-      → reads x rest next (going (frame ∷ frames) s) ≡ done program entry frame frames
+      → reads x rest next (going (frame ∷ frames) s) ≡ done program entry
       (does_read x rest next frame.environment (world_of s)) (going (frame ∷ frames) s)
   done-read x [] s = refl
   done-read x (literal ∷ rest) s = refl
 
   -- an array is made
   done-make : (x : VarId) (cells : List Value) (s : State)
-      → makes x cells next (going (frame ∷ frames) s) ≡ done program entry frame frames
+      → makes x cells next (going (frame ∷ frames) s) ≡ done program entry
       (does_make x cells next frame.environment (world_of s)) (going (frame ∷ frames) s)
   done-make x cells s =
-      done-cond program entry frame frames (ltb cell_limit (count_heap s.heap + length cells)) _ _ _ _
+      done-cond program entry (ltb cell_limit (count_heap s.heap + length cells)) _ _ _ _
       (going (frame ∷ frames) s) refl refl
 
   -- an array of so many cells is made
   done-make_empty : (x : VarId) (count : Option ℤ) (s : State)
       → makes_empty x count next (going (frame ∷ frames) s)
-      ≡ done program entry frame frames (does_make_empty x count next frame.environment (world_of s))
+      ≡ done program entry (does_make_empty x count next frame.environment (world_of s))
       (going (frame ∷ frames) s)
   done-make_empty x None s = refl
   done-make_empty x (Some (negsuc n)) s = refl
@@ -64,16 +65,16 @@ module _ (program : ProgramView) (entry : Entry) (frame : Frame) (frames : List 
   -- a cell is written
   done-write_cell : (a : ArrayId) (cells : List Value) (index : ℤ) (value : Value) (s : State)
       → writes_cell a cells index value next (going (frame ∷ frames) s)
-      ≡ done program entry frame frames (does_write_cell a cells index value next frame.environment (world_of s))
+      ≡ done program entry (does_write_cell a cells index value next frame.environment (world_of s))
       (going (frame ∷ frames) s)
   done-write_cell a cells (negsuc n) value s = refl
   done-write_cell a cells (pos place) value s =
-      done-cond program entry frame frames (ltb place (length cells)) _ _ _ _ (going (frame ∷ frames) s) refl refl
+      done-cond program entry (ltb place (length cells)) _ _ _ _ (going (frame ∷ frames) s) refl refl
 
   -- a cell of an array is written
   done-write_array : (a : ArrayId) (cells : Option (List Value)) (index : Option ℤ) (value : Value) (s : State)
       → writes_array a cells index value next (going (frame ∷ frames) s)
-      ≡ done program entry frame frames (does_write_array a cells index value next frame.environment (world_of s))
+      ≡ done program entry (does_write_array a cells index value next frame.environment (world_of s))
       (going (frame ∷ frames) s)
   done-write_array a None index value s = refl
   done-write_array a (Some cells) None value s = refl
@@ -82,23 +83,23 @@ module _ (program : ProgramView) (entry : Entry) (frame : Frame) (frames : List 
   -- a cell of what should be an array is written
   done-write : (array : Value) (index : Option ℤ) (value : Value) (s : State)
       → writes array index value next (going (frame ∷ frames) s)
-      ≡ done program entry frame frames (does_write array index value next frame.environment (world_of s))
+      ≡ done program entry (does_write array index value next frame.environment (world_of s))
       (going (frame ∷ frames) s)
   done-write (Plain literal) index value s = refl
   done-write (Array a) index value s = done-write_array a (slice_get s.heap a.0) index value s
 
   -- a line is printed
   done-print : (line : List ℕ) (s : State)
-      → prints line next (going (frame ∷ frames) s) ≡ done program entry frame frames
+      → prints line next (going (frame ∷ frames) s) ≡ done program entry
       (does_print line next frame.environment (world_of s)) (going (frame ∷ frames) s)
   done-print line s =
-      done-cond program entry frame frames (ltb output_limit (length (s.output ++ line))) _ _ _ _
+      done-cond program entry (ltb output_limit (length (s.output ++ line))) _ _ _ _
       (going (frame ∷ frames) s) refl refl
 
   -- a branch goes to one of two labels
   done-branch : (value : Option Bool) (first second : List ℕ) (s : State)
       → branches value first second (going (frame ∷ frames) s)
-      ≡ done program entry frame frames (does_branch value first second frame.environment (world_of s))
+      ≡ done program entry (does_branch value first second frame.environment (world_of s))
       (going (frame ∷ frames) s)
   done-branch None first second s = refl
   done-branch (Some true) first second s = refl
@@ -107,19 +108,21 @@ module _ (program : ProgramView) (entry : Entry) (frame : Frame) (frames : List 
   -- a frame leaves
   done-leave : (exit : Exit) (anchor : Bool) (s : State)
       → leaves program frame exit (takes_exit_turn anchor (going (frame ∷ frames) s))
-      ≡ done program entry frame frames (tried (landed_frames program frame s.heap (continuations exit)) lands)
-      (counted (not anchor) (going (frame ∷ frames) s))
+      ≡ applied program entry (record {
+        turn = not anchor;
+        deed = tried (landed_frames program frame s.heap (continuations exit)) lands;
+      }) (going (frame ∷ frames) s)
   done-leave exit true s =
-      tried-given program entry frame frames (landed_frames program frame s.heap (continuations exit)) _ lands
+      tried-given program entry (landed_frames program frame s.heap (continuations exit)) _ lands
       (going (frame ∷ frames) s) (λ tops. refl)
   done-leave exit false s =
-      tried-given program entry frame frames (landed_frames program frame s.heap (continuations exit)) _ lands
+      tried-given program entry (landed_frames program frame s.heap (continuations exit)) _ lands
       (takes_turn (going (frame ∷ frames) s)) (λ tops. refl)
 
   -- an assume goes on or leaves
   done-assume : (exit : Exit) (holds : Bool) (s : State)
       → assumes program frame exit next holds (going (frame ∷ frames) s)
-      ≡ applied_to program entry frame frames (does_assume program frame exit next (world_of s) holds)
+      ≡ applied program entry (does_assume program frame exit next (world_of s) holds)
       (going (frame ∷ frames) s)
   done-assume exit true s = refl
   done-assume exit false s = done-leave exit (is_anchor frame.label) s
@@ -128,7 +131,7 @@ module _ (program : ProgramView) (entry : Entry) (frame : Frame) (frames : List 
   done-try : (exit : Exit) (told : Bool) (r : Result Bool Trap) (s : State)
       → given r (λ holds. assumes program frame exit next (cond told false holds) (going (frame ∷ frames) s))
       (going (frame ∷ frames) s)
-      ≡ applied_to program entry frame frames (does_try program frame exit next (world_of s) told r)
+      ≡ applied program entry (does_try program frame exit next (world_of s) told r)
       (going (frame ∷ frames) s)
   done-try exit told (Err trap) s = refl
   done-try exit told (Ok holds) s = done-assume exit (cond told false holds) s
@@ -136,36 +139,36 @@ module _ (program : ProgramView) (entry : Entry) (frame : Frame) (frames : List 
 -- each instruction
 pub acts_by_effect : ActsByEffect
 acts_by_effect program choice frame frames (Var x e) next s =
-    tried-given program choice.entry frame frames (eval frame.environment s.heap e) _ _ (going (frame ∷ frames) s)
+    tried-given program choice.entry (eval frame.environment s.heap e) _ _ (going (frame ∷ frames) s)
     (λ value. refl)
 acts_by_effect program choice frame frames (Drop x) next s = refl
 acts_by_effect program choice frame frames (Assign x e) next s =
-    tried-given program choice.entry frame frames (eval frame.environment s.heap e) _ _ (going (frame ∷ frames) s)
+    tried-given program choice.entry (eval frame.environment s.heap e) _ _ (going (frame ∷ frames) s)
     (λ value. refl)
 acts_by_effect program choice frame frames (ArrayLength x e) next s =
-    tried-given program choice.entry frame frames (eval frame.environment s.heap e) _ _ (going (frame ∷ frames) s)
+    tried-given program choice.entry (eval frame.environment s.heap e) _ _ (going (frame ∷ frames) s)
     (λ value. done-make_empty program choice.entry frame frames next x (number_in value) s)
 acts_by_effect program choice frame frames (ArrayList x es) next s =
-    tried-given program choice.entry frame frames (eval_each frame.environment s.heap es) _ _ (going (frame ∷ frames) s)
+    tried-given program choice.entry (eval_each frame.environment s.heap es) _ _ (going (frame ∷ frames) s)
     (λ cells. done-make program choice.entry frame frames next x cells s)
 acts_by_effect program choice frame frames (Store x index e) next s =
-    tried-given program choice.entry frame frames (eval frame.environment s.heap e) _ _ (going (frame ∷ frames) s)
+    tried-given program choice.entry (eval frame.environment s.heap e) _ _ (going (frame ∷ frames) s)
     (λ value. done-write program choice.entry frame frames next (operand frame.environment (simple.Var x))
     (number_in (operand frame.environment index)) value s)
 acts_by_effect program choice frame frames (Read x) next s = done-read program choice.entry frame frames next x s.rest s
 acts_by_effect program choice frame frames (Print e) next s =
-    tried-given program choice.entry frame frames (eval frame.environment s.heap e) _ _ (going (frame ∷ frames) s)
+    tried-given program choice.entry (eval frame.environment s.heap e) _ _ (going (frame ∷ frames) s)
     (λ value. done-print program choice.entry frame frames next (value_text program s.heap value ++ 10 ∷ []) s)
 acts_by_effect program choice frame frames (Branch e first second) next s =
-    tried-given program choice.entry frame frames (eval frame.environment s.heap e) _ _
+    tried-given program choice.entry (eval frame.environment s.heap e) _ _
     (takes_turn (going (frame ∷ frames) s))
     (λ value. done-branch program choice.entry frame frames next (truth_in value) first second (takes_turn s))
 acts_by_effect program choice frame frames (Goto label) next s = refl
 acts_by_effect program choice frame frames (Call x callee es) next s =
-    tried-given program choice.entry frame frames (eval_each frame.environment s.heap es) _ _
+    tried-given program choice.entry (eval_each frame.environment s.heap es) _ _
     (takes_turn (going (frame ∷ frames) s)) (λ values. refl)
 acts_by_effect program choice frame frames (Return e) next s =
-    tried-given program choice.entry frame frames (eval frame.environment s.heap e) _ _
+    tried-given program choice.entry (eval frame.environment s.heap e) _ _
     (takes_turn (going (frame ∷ frames) s)) (λ value. refl)
 acts_by_effect program choice frame frames Stop next s = refl
 acts_by_effect program choice frame frames (Assume es exit) next s =

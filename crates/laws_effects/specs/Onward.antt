@@ -1,5 +1,5 @@
 -- How a frame goes on after an instruction: what facts along runs rest on.
-use Rattle.std.specs.Prelude.{◌≡◌, ℕ, List, Bool, None, Some, Ok, true, slice_set, Contains, if◌then◌else◌}
+use Rattle.std.specs.Prelude.{◌≡◌, ℕ, List, Bool, None, Some, Ok, true, false, not, ◌⊎◌, ◌++◌, slice_set, Contains, if◌then◌else◌}
 use Rattle.sour_syntax.specs.declared.literal.Literal.TheVariants.{Truth}
 use Rattle.sour_syntax.specs.declared.literal.Value.TheVariants.{Plain}
 use Rattle.sour_syntax.specs.declared.exit.Exit.{Exit}
@@ -12,10 +12,11 @@ use Rattle.sour_syntax.specs.declared.literal.VarId.{VarId}
 use Rattle.sour_syntax.specs.Exits.{continuations}
 use Rattle.sour_syntax.specs.Program.{ProgramView}
 use Rattle.sour_syntax.specs.Scopes.{following_labels}
-use Rattle.sour_semantics.specs.State.{Environment, Heap, Frame}
+use Rattle.sour_syntax.specs.Terminator.{IsTerminator}
+use Rattle.sour_semantics.specs.State.{Environment, Heap, Frame, Ending, returned}
 use Rattle.sour_semantics.specs.Evaluation.{eval, holds_each}
-use Rattle.sour_semantics.specs.Step.{landed_frames}
-use Rattle.laws_simulation.specs.Effect.{Deed, goes, asks, gives, lands, finishes}
+use Rattle.sour_semantics.specs.Step.{is_anchor, landed_frames}
+use Rattle.laws_effects.specs.Effect.{World, Deed, goes, asks, gives, lands, finishes, Effect}
 
 -- the variable has the value of the expression
 abbrev pub Gets : VarId → Expr → Environment → Heap → Environment → Type 0
@@ -45,21 +46,14 @@ Becomes (Assume es exit) environment heap row = (row ≡ environment) × (holds_
 
 -- a branch goes to the label that its value says; nothing is said of any other instruction
 abbrev pub Takes : Instr → Environment → Heap → List ℕ → Type 0
-Takes (Var x e) environment heap label = Unit {0}
-Takes (Drop x) environment heap label = Unit {0}
-Takes (Assign x e) environment heap label = Unit {0}
-Takes (ArrayLength x e) environment heap label = Unit {0}
-Takes (ArrayList x es) environment heap label = Unit {0}
-Takes (Store x index e) environment heap label = Unit {0}
-Takes (Print e) environment heap label = Unit {0}
-Takes (Read x) environment heap label = Unit {0}
 Takes (Branch e a b) environment heap label =
     (test : Bool) × (eval environment heap e ≡ Ok (Plain (Truth test))) × (label ≡ (if test then a else b))
-Takes (Goto a) environment heap label = Unit {0}
-Takes (Call x callee es) environment heap label = Unit {0}
-Takes (Return e) environment heap label = Unit {0}
-Takes Stop environment heap label = Unit {0}
-Takes (Assume es exit) environment heap label = Unit {0}
+Takes instr environment heap label = Unit {0}
+
+-- an instruction by itself ends no run with a value
+abbrev pub IsOwnEnding : Ending → Type 0
+IsOwnEnding (returned value) = ⊥
+IsOwnEnding ending = Unit {0}
 
 -- the deed is one that the instruction may do in this frame
 abbrev pub IsDeedOf : ProgramView → Frame → Heap → Instr → List ℕ → Deed → Type 0
@@ -72,4 +66,24 @@ IsDeedOf program frame heap instr next (gives value) = Unit {0}
 IsDeedOf program frame heap instr next (lands frames) =
     (es : List Expr) × (exit : Exit) × (instr ≡ Assume es exit)
     × (landed_frames program frame heap (continuations exit) ≡ Ok frames)
-IsDeedOf program frame heap instr next (finishes ending) = Unit {0}
+IsDeedOf program frame heap instr next (finishes ending) = IsOwnEnding ending
+
+-- bytes, with more after them
+abbrev pub Grows : List ℕ → List ℕ → Type 0
+Grows old new = (more : List ℕ) × (new ≡ old ++ more)
+
+-- the deed may take a turn or none: what takes none goes to the next line or leaves at an anchor, and it alone writes
+abbrev pub IsTurnOf : Frame → World → Instr → List ℕ → Bool → Deed → Type 0
+IsTurnOf frame world instr next turn (goes label environment after) =
+    (turn ≡ false → (label ≡ next) × (IsTerminator instr → ⊥))
+    × ((turn ≡ false) × Grows world.output after.output ⊎ (after.output ≡ world.output))
+IsTurnOf frame world instr next turn (asks x f values label) = turn ≡ true
+IsTurnOf frame world instr next turn (gives value) = turn ≡ true
+IsTurnOf frame world instr next turn (lands frames) = turn ≡ not (is_anchor frame.label)
+IsTurnOf frame world instr next turn (finishes ending) = Unit {0}
+
+-- the effect is one of the instruction
+pub record IsEffectOf (program : ProgramView) (frame : Frame) (world : World) (instr : Instr) (next : List ℕ)
+    (e : Effect) : Type 0 where
+  pub does : IsDeedOf program frame world.heap instr next e.deed
+  pub takes : IsTurnOf frame world instr next e.turn e.deed
