@@ -1,26 +1,22 @@
 -- Calls that enter a lawful bundle.
-use Rattle.std.proofs.Common.{◌≡◌, ◌+◌, ◌⊎◌, inl, inr, ℕ, zero, suc, Bool, true, false, List, [], ◌∷◌, ◌++◌, Option, None, Some, Result, Ok, Err, cond, length, map, nat_eq, slice_get, refl, sym, ap, subst, ◌∙◌, arith}
+use Rattle.std.proofs.Common.{◌≡◌, ◌+◌, ◌⊎◌, inl, inr, ℕ, zero, suc, Bool, true, false, List, [], ◌∷◌, ◌++◌, Option, None, Some, cond, length, map, nat_eq, slice_get, refl, sym, ap, subst, ◌∙◌, arith}
 use Rattle.std.specs.List.{AllByRecursion}
 use Rattle.std.proofs.lemmas.Option.{same_Some, none-some}
 use Rattle.std.proofs.lemmas.Bool.{eqb-true}
-use Rattle.sour_syntax.specs.declared.instruction.Instr.{Instr}
-use Rattle.sour_syntax.specs.declared.instruction.Instr.TheVariants.{Var, Drop, Assign, ArrayLength, ArrayList, Store, Print, Read, Branch, Goto, Call, Return, Stop, Assume}
-use Rattle.sour_syntax.specs.declared.instruction.Line.{Line}
 use Rattle.sour_syntax.specs.declared.literal.FunId.{FunId}
 use Rattle.sour_syntax.specs.declared.literal.Value.{Value}
 use Rattle.sour_syntax.specs.declared.literal.VarId.{VarId}
-use Rattle.sour_syntax.specs.declared.trap.Trap.{Trap}
 use Rattle.sour_syntax.specs.BodyView.{BodyView}
-use Rattle.sour_syntax.specs.Labels.{from_label, first_label}
 use Rattle.sour_syntax.specs.Program.{ProgramView, IsProgram}
 use Rattle.sour_syntax.specs.Targets.{made_body}
 use Rattle.sour_semantics.specs.State.{Frame, FrameCode, text, made, State, Ending, BundleView}
-use Rattle.sour_semantics.specs.Evaluation.{function_in, operand, eval_each}
-use Rattle.sour_semantics.specs.Step.{Choice, Entry, text_version, bundle, step, given, takes_turn, entered_frame, enters, calls, body_at, body_or_empty, body_of, act, act_first, lines_of}
+use Rattle.sour_semantics.specs.Step.{Choice, Entry, text_version, bundle, step, entered_frame, enters, calls, body_at, body_or_empty, body_of}
 use Rattle.sour_semantics.specs.Run.{start_of}
 use Rattle.sour_semantics.specs.Shape.{TakesParameters, AreMadeBodies, HasShape}
 use Rattle.sour_semantics.specs.Validity.{IsValue, IsKept, MayStart, IsValid}
 use Rattle.sour_semantics.specs.Agreement.{free_choice, Agree, IsLawful}
+use Rattle.laws_effects.specs.Effect.{world_of, Deed, goes, asks, gives, lands, finishes, Effect, done, counted, applied, effect_unless, effect_next}
+use Rattle.laws_effects.proofs.Steps.{steps_by_effect}
 use Rattle.laws_validity.proofs.Steps.{IsValid-step}
 use Rattle.laws_agreement.specs.Laws.{later, above, CallAgrees, IsLawfulEntry, RunsAgree}
 use Rattle.laws_validity.proofs.States.{going}
@@ -41,12 +37,6 @@ record Enters (program : ProgramView) (view : BundleView) (free entered : State)
 -- the step is the free one, or it enters the bundle
 abbrev MayDiffer : ProgramView → BundleView → State → State → Type 0
 MayDiffer program view free entered = (entered ≡ free) ⊎ Enters program view free entered
-
--- whether or not a value comes
-MayDiffer-given : {A : Type 0} (program : ProgramView) (view : BundleView) (r : Result A Trap) (onward further : A → State) (s : State)
-    → ((value : A) → MayDiffer program view (onward value) (further value)) → MayDiffer program view (given r onward s) (given r further s)
-MayDiffer-given program view (Ok value) onward further s ok = ok value
-MayDiffer-given program view (Err trap) onward further s ok = inl refl
 
 -- what stands at the beginning of a body, above what waits for it
 entered-above : (program : ProgramView) (code : FrameCode) (body : BodyView) (values : List Value) (below : Frame) (low : List Frame) (s : State)
@@ -157,43 +147,37 @@ MayDiffer-calls program view x (Some f) values next frame frames s shape =
 abbrev entering : BundleView → Bool → Choice
 entering view leaves = record { entry = bundle view; leaves = leaves }
 
--- an instruction: only at a call do the steps differ
-MayDiffer-act : (program : ProgramView) (view : BundleView) (leaves : Bool) (frame : Frame) (frames : List Frame) (instr : Instr) (next : List ℕ) (s : State)
+-- a deed: only a call differs
+MayDiffer-done : (program : ProgramView) (view : BundleView) (frame : Frame) (frames : List Frame) (deed : Deed) (s : State)
     → HasShape program view
-    → MayDiffer program view (act program (free_choice leaves) frame instr next (going (frame ∷ frames) s)) (act program (entering view leaves) frame instr next (going (frame ∷ frames) s))
-MayDiffer-act program view leaves frame frames (Var x e) next s shape = inl refl
-MayDiffer-act program view leaves frame frames (Drop x) next s shape = inl refl
-MayDiffer-act program view leaves frame frames (Assign x e) next s shape = inl refl
-MayDiffer-act program view leaves frame frames (ArrayLength x e) next s shape = inl refl
-MayDiffer-act program view leaves frame frames (ArrayList x es) next s shape = inl refl
-MayDiffer-act program view leaves frame frames (Store x index e) next s shape = inl refl
-MayDiffer-act program view leaves frame frames (Print e) next s shape = inl refl
-MayDiffer-act program view leaves frame frames (Read x) next s shape = inl refl
-MayDiffer-act program view leaves frame frames (Branch e first second) next s shape = inl refl
-MayDiffer-act program view leaves frame frames (Goto label) next s shape = inl refl
-MayDiffer-act program view leaves frame frames (Call x callee es) next s shape =
-    MayDiffer-given program view (eval_each frame.environment s.heap es) _ _ (takes_turn (going (frame ∷ frames) s))
-    (λ values. MayDiffer-calls program view x (function_in (operand frame.environment callee)) values next frame frames (takes_turn s) shape)
-MayDiffer-act program view leaves frame frames (Return e) next s shape = inl refl
-MayDiffer-act program view leaves frame frames Stop next s shape = inl refl
-MayDiffer-act program view leaves frame frames (Assume es exit) next s shape = inl refl
+    → MayDiffer program view (done program text_version deed (going (frame ∷ frames) s)) (done program (bundle view) deed (going (frame ∷ frames) s))
+MayDiffer-done program view frame frames (goes label environment world) s shape = inl refl
+MayDiffer-done program view frame frames (asks x f values next) s shape =
+    MayDiffer-calls program view x f values next frame frames s shape
+MayDiffer-done program view frame frames (gives value) s shape = inl refl
+MayDiffer-done program view frame frames (lands tops) s shape = inl refl
+MayDiffer-done program view frame frames (finishes ending) s shape = inl refl
 
--- the first of the lines that are left
-MayDiffer-act_first : (program : ProgramView) (view : BundleView) (leaves : Bool) (frame : Frame) (frames : List Frame) (lines : List Line) (s : State)
-    → HasShape program view
-    → MayDiffer program view (act_first program (free_choice leaves) frame lines (going (frame ∷ frames) s)) (act_first program (entering view leaves) frame lines (going (frame ∷ frames) s))
-MayDiffer-act_first program view leaves frame frames [] s shape = inl refl
-MayDiffer-act_first program view leaves frame frames (line ∷ lines) s shape =
-    MayDiffer-act program view leaves frame frames line.instr (first_label lines) s shape
-
--- a state of these parts
+-- an effect of a run, by its frames and its end
 MayDiffer-parts : (program : ProgramView) (view : BundleView) (leaves : Bool) (ending : Option Ending) (frames : List Frame) (s : State) → HasShape program view
-    → MayDiffer program view (step program (free_choice leaves) (record s { frames = frames; ending = ending }))
-    (step program (entering view leaves) (record s { frames = frames; ending = ending }))
+    → MayDiffer program view
+    (applied program text_version (effect_unless program leaves (world_of s) frames ending) (record s { frames = frames; ending = ending }))
+    (applied program (bundle view) (effect_unless program leaves (world_of s) frames ending) (record s { frames = frames; ending = ending }))
 MayDiffer-parts program view leaves None [] s shape = inl refl
 MayDiffer-parts program view leaves None (frame ∷ frames) s shape =
-    MayDiffer-act_first program view leaves frame frames (from_label frame.label (lines_of program frame.code)) s shape
+    let e : Effect = effect_unless program leaves (world_of s) (frame ∷ frames) None in
+    MayDiffer-done program view frame frames e.deed (record s { turns = counted e.turn s.turns }) shape
 MayDiffer-parts program view leaves (Some ending) frames s shape = inl refl
+
+-- only at a call do steps differ
+MayDiffer-step : (program : ProgramView) (view : BundleView) (leaves : Bool) (s : State) → HasShape program view
+    → MayDiffer program view (step program (free_choice leaves) s) (step program (entering view leaves) s)
+MayDiffer-step program view leaves s shape =
+    let Free : State → Type 0 = λ t. MayDiffer program view t (step program (entering view leaves) s) in
+    let Entered : State → Type 0 = MayDiffer program view (applied program text_version (effect_next program leaves s) s) in
+    subst Free (sym (steps_by_effect program (free_choice leaves) s))
+    (subst Entered (sym (steps_by_effect program (entering view leaves) s))
+    (MayDiffer-parts program view leaves s.ending s.frames s shape))
 
 -- the first values of a row are values
 are-values : (functions arrays : ℕ) (values : List Value) (others : List (Option Value))
@@ -240,7 +224,7 @@ pub call_agrees : CallAgrees
 call_agrees program view leaves s t checked valid lawful agrees =
     let free : State = step program (free_choice leaves) s in
     let next : Agree program free t = λ choices. agrees (leaves ∷ choices) in
-    entered-agrees program view free (step program (entering view leaves) s) t (MayDiffer-parts program view leaves s.ending s.frames s lawful.shape)
+    entered-agrees program view free (step program (entering view leaves) s) t (MayDiffer-step program view leaves s lawful.shape)
     (IsValid-step program (free_choice leaves) s checked valid tt) lawful next
 
 -- a step with a choice that is lawful

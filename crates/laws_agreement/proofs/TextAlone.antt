@@ -1,20 +1,16 @@
 -- The first version of a function as a bundle of one body.
-use Rattle.std.proofs.Common.{◌≡◌, ◌+◌, ◌≤◌, ◌&&◌, ℕ, ℤ, pos, negsuc, Bool, true, false, List, [], ◌∷◌, ◌++◌, Option, None, Some, Result, Ok, Err, cond, ltb, length, map, nat_eq, replicate, slice_get, refl, sym, ap, subst, ◌∙◌, arith}
+use Rattle.std.proofs.Common.{◌≡◌, ◌≤◌, ◌&&◌, ℕ, Bool, true, false, not, List, [], ◌∷◌, ◌++◌, Option, None, Some, Result, Ok, Err, cond, length, map, nat_eq, replicate, slice_get, refl, sym, ap, subst, ◌∙◌, arith}
 use Rattle.std.specs.Prelude.{IfOk}
 use Rattle.std.specs.List.{AllByRecursion}
+use Rattle.std.proofs.lemmas.Result.{IfOk-at_ok}
 use Rattle.sour_syntax.specs.declared.exit.Code.{Code}
 use Rattle.sour_syntax.specs.declared.exit.Code.TheVariants.{Text, Made}
 use Rattle.sour_syntax.specs.declared.exit.Exit.{Exit}
 use Rattle.sour_syntax.specs.declared.instruction.Instr.{Instr}
 use Rattle.sour_syntax.specs.declared.instruction.Instr.TheVariants.{Var, Drop, Assign, ArrayLength, ArrayList, Store, Print, Read, Branch, Goto, Call, Return, Stop, Assume}
-use Rattle.sour_syntax.specs.declared.expression.Simple.TheVariants as simple
 use Rattle.sour_syntax.specs.declared.instruction.Line.{Line}
-use Rattle.sour_syntax.specs.declared.literal.ArrayId.{ArrayId}
 use Rattle.sour_syntax.specs.declared.literal.FunId.{FunId}
-use Rattle.sour_syntax.specs.declared.literal.Literal.{Literal}
-use Rattle.sour_syntax.specs.declared.literal.Literal.TheVariants.{Nil}
 use Rattle.sour_syntax.specs.declared.literal.Value.{Value}
-use Rattle.sour_syntax.specs.declared.literal.Value.TheVariants.{Plain, Array}
 use Rattle.sour_syntax.specs.declared.literal.VarId.{VarId}
 use Rattle.sour_syntax.specs.declared.program.Function.{Function}
 use Rattle.sour_syntax.specs.declared.program.Version.{Version}
@@ -24,17 +20,20 @@ use Rattle.sour_syntax.specs.Exits.{Continuation, continuations, continuations_o
 use Rattle.sour_syntax.specs.Labels.{from_label, first_label}
 use Rattle.sour_syntax.specs.Program.{ProgramView, IsProgram}
 use Rattle.sour_syntax.specs.Targets.{version_body, text_body, made_body}
+use Rattle.sour_syntax.proofs.NoExits.{All-from_label, label-from_label}
 use Rattle.sour_semantics.specs.State.{Heap, Frame, FrameCode, text, made, State, Ending}
-use Rattle.sour_semantics.specs.Evaluation.{number_in, truth_in, function_in, operand, eval, eval_each, holds_each, in_front}
-use Rattle.sour_semantics.specs.Text.{value_text}
-use Rattle.sour_semantics.specs.Step.{text_version, text_choice, step, given, reads, makes, makes_empty, cell_limit, count_heap, writes, writes_array, writes_cell, prints, output_limit, takes_turn, takes_exit_turn, is_anchor, branches, enters, calls, entered_frame, resumes, returns, exit_code, bound, landed, landed_frames, replaces_top, leaves, assumes, stays, body_at, body_or_empty, body_of, act, act_first, lines_of}
+use Rattle.sour_semantics.specs.Evaluation.{eval_each, holds_each, in_front}
+use Rattle.sour_semantics.specs.Step.{text_version, text_choice, step, is_anchor, enters, calls, entered_frame, resumes, returns, exit_code, bound, landed, landed_frames, body_at, body_or_empty, body_of, lines_of}
 use Rattle.sour_semantics.specs.Run.{start_of, text_run}
 use Rattle.sour_semantics.specs.Agreement.{free_choice, free_run, Match, Agree}
-use Rattle.laws_agreement.specs.Laws.{IsTextCode, TextAgrees, TextAloneAgrees}
-use Rattle.sour_syntax.proofs.NoExits.{All-from_label, label-from_label}
 use Rattle.sour_semantics.proofs.Anchors.{plain-no_anchor}
+use Rattle.laws_effects.specs.Effect.{World, world_of, Deed, goes, asks, gives, lands, finishes, Effect, tried, does_try, effect, done, counted, applied, effect_first, effect_unless}
+use Rattle.laws_effects.specs.Onward.{IsDeedOf}
+use Rattle.laws_effects.proofs.Onward.{effect-is}
+use Rattle.laws_effects.proofs.Steps.{steps_by_effect}
 use Rattle.laws_validity.proofs.States.{going}
 use Rattle.laws_validity.proofs.Values.{IfOk-in_front}
+use Rattle.laws_agreement.specs.Laws.{IsTextCode, TextAgrees, TextAloneAgrees}
 use Rattle.laws_agreement.proofs.TextBodies.{IsTextTarget, IsTextLine, IsVersionBody-program, text-lines}
 
 -- the code of a version, or that of the one body of the bundle
@@ -64,74 +63,10 @@ record Follows (f : FunId) (body : BodyView) (s t : State) : Type 0 where
   pub same : t ≡ textual f s
   pub here : AreHere body s.frames
 
--- whether or not a value comes
-Follows-given : {A : Type 0} (f : FunId) (body : BodyView) (r : Result A Trap) (onward further : A → State) (s : State) → AreHere body s.frames
-    → ((value : A) → Follows f body (onward value) (further value)) → Follows f body (given r onward s) (given r further (textual f s))
-Follows-given f body (Ok value) onward further s here ok = ok value
-Follows-given f body (Err trap) onward further s here ok = record { same = refl; here = here }
-
 -- whichever of two states it is
 Follows-cond : (f : FunId) (body : BodyView) (b : Bool) (s t u v : State) → Follows f body s u → Follows f body t v → Follows f body (cond b s t) (cond b u v)
 Follows-cond f body true s t u v h k = h
 Follows-cond f body false s t u v h k = k
-
--- a read
-Follows-reads : (f : FunId) (body : BodyView) (frame : Frame) (frames : List Frame) (x : VarId) (rest : List Literal) (next : List ℕ) (s : State) → AreHere body (frame ∷ frames)
-    → Follows f body (reads x rest next (going (frame ∷ frames) s)) (reads x rest next (textual f (going (frame ∷ frames) s)))
-Follows-reads f body frame frames x [] next s here = record { same = refl; here = here }
-Follows-reads f body frame frames x (literal ∷ rest) next s here = record { same = refl; here = here }
-
--- a new array
-Follows-makes : (f : FunId) (body : BodyView) (frame : Frame) (frames : List Frame) (x : VarId) (cells : List Value) (next : List ℕ) (s : State) → AreHere body (frame ∷ frames)
-    → Follows f body (makes x cells next (going (frame ∷ frames) s)) (makes x cells next (textual f (going (frame ∷ frames) s)))
-Follows-makes f body frame frames x cells next s here =
-    Follows-cond f body (ltb cell_limit (count_heap s.heap + length cells)) _ _ _ _ (record { same = refl; here = here }) (record { same = refl; here = here })
-
--- a new array of a length
-Follows-makes_empty : (f : FunId) (body : BodyView) (frame : Frame) (frames : List Frame) (x : VarId) (count : Option ℤ) (next : List ℕ) (s : State) → AreHere body (frame ∷ frames)
-    → Follows f body (makes_empty x count next (going (frame ∷ frames) s)) (makes_empty x count next (textual f (going (frame ∷ frames) s)))
-Follows-makes_empty f body frame frames x None next s here = record { same = refl; here = here }
-Follows-makes_empty f body frame frames x (Some (negsuc n)) next s here = record { same = refl; here = here }
-Follows-makes_empty f body frame frames x (Some (pos count)) next s here =
-    Follows-makes f body frame frames x (replicate count (Plain Nil)) next s here
-
--- a store at an index
-Follows-writes_cell : (f : FunId) (body : BodyView) (frame : Frame) (frames : List Frame) (a : ArrayId) (cells : List Value) (index : ℤ) (value : Value) (next : List ℕ) (s : State)
-    → AreHere body (frame ∷ frames)
-    → Follows f body (writes_cell a cells index value next (going (frame ∷ frames) s)) (writes_cell a cells index value next (textual f (going (frame ∷ frames) s)))
-Follows-writes_cell f body frame frames a cells (negsuc n) value next s here = record { same = refl; here = here }
-Follows-writes_cell f body frame frames a cells (pos place) value next s here =
-    Follows-cond f body (ltb place (length cells)) _ _ _ _ (record { same = refl; here = here }) (record { same = refl; here = here })
-
--- a store into an array, whether or not it is there
-Follows-writes_array : (f : FunId) (body : BodyView) (frame : Frame) (frames : List Frame) (a : ArrayId) (cells : Option (List Value)) (index : Option ℤ) (value : Value) (next : List ℕ) (s : State)
-    → AreHere body (frame ∷ frames)
-    → Follows f body (writes_array a cells index value next (going (frame ∷ frames) s)) (writes_array a cells index value next (textual f (going (frame ∷ frames) s)))
-Follows-writes_array f body frame frames a None index value next s here = record { same = refl; here = here }
-Follows-writes_array f body frame frames a (Some cells) None value next s here = record { same = refl; here = here }
-Follows-writes_array f body frame frames a (Some cells) (Some index) value next s here =
-    Follows-writes_cell f body frame frames a cells index value next s here
-
--- any store
-Follows-writes : (f : FunId) (body : BodyView) (frame : Frame) (frames : List Frame) (array : Value) (index : Option ℤ) (value : Value) (next : List ℕ) (s : State)
-    → AreHere body (frame ∷ frames)
-    → Follows f body (writes array index value next (going (frame ∷ frames) s)) (writes array index value next (textual f (going (frame ∷ frames) s)))
-Follows-writes f body frame frames (Plain literal) index value next s here = record { same = refl; here = here }
-Follows-writes f body frame frames (Array a) index value next s here =
-    Follows-writes_array f body frame frames a (slice_get s.heap a.0) index value next s here
-
--- a print
-Follows-prints : (f : FunId) (body : BodyView) (frame : Frame) (frames : List Frame) (line next : List ℕ) (s : State) → AreHere body (frame ∷ frames)
-    → Follows f body (prints line next (going (frame ∷ frames) s)) (prints line next (textual f (going (frame ∷ frames) s)))
-Follows-prints f body frame frames line next s here =
-    Follows-cond f body (ltb output_limit (length (s.output ++ line))) _ _ _ _ (record { same = refl; here = here }) (record { same = refl; here = here })
-
--- a branch
-Follows-branches : (f : FunId) (body : BodyView) (frame : Frame) (frames : List Frame) (value : Option Bool) (first second : List ℕ) (s : State) → AreHere body (frame ∷ frames)
-    → Follows f body (branches value first second (going (frame ∷ frames) s)) (branches value first second (textual f (going (frame ∷ frames) s)))
-Follows-branches f body frame frames None first second s here = record { same = refl; here = here }
-Follows-branches f body frame frames (Some true) first second s here = record { same = refl; here = here }
-Follows-branches f body frame frames (Some false) first second s here = record { same = refl; here = here }
 
 -- a version is entered
 Follows-enters : (f : FunId) (body : BodyView) (frame : Frame) (frames : List Frame) (x : VarId) (g : FunId) (found : Option BodyView) (values : List Value) (next : List ℕ) (s : State)
@@ -246,105 +181,84 @@ IfOk-landed_frames program frame heap (continuation ∷ some) are =
     (IfOk-landed program frame.code continuation (eval_each frame.environment heap (bound_values continuation.binds)) are.0)
     (IfOk-landed_frames program frame heap some are.1)
 
--- frames of versions take the place of the top frame
-Follows-landed : (f : FunId) (body : BodyView) (r : Result (List Frame) Trap) (frame : Frame) (frames : List Frame) (s : State) → AreHere body (frame ∷ frames) → IfOk r AreText
-    → Follows f body
-    (given r (λ tops. going (replaces_top tops (frame ∷ frames)) s) (going (frame ∷ frames) s))
-    (given r (λ tops. going (replaces_top tops (map (textual_frame f) (frame ∷ frames))) s) (textual f (going (frame ∷ frames) s)))
-Follows-landed f body (Err trap) frame frames s here are = record { same = refl; here = here }
-Follows-landed f body (Ok tops) frame frames s here are = record {
-  same = ap (λ all. going all s) (map-text f tops frames are);
-  here = AreHere-text body tops frames are here.1;
-}
-
 -- the same with another equal state
 Follows-moved : (f : FunId) (body : BodyView) (s t u : State) → u ≡ t → Follows f body s t → Follows f body s u
 Follows-moved f body s t u is follows = record { same = is ∙ follows.same; here = follows.here }
 
--- the top frame leaves for versions
-Follows-leaves : (program : ProgramView) (f : FunId) (body : BodyView) (frame : Frame) (frames : List Frame) (exit : Exit) (s : State) → AreHere body (frame ∷ frames)
-    → AllByRecursion (λ continuation. IsTextTarget continuation.target.code) (continuations exit)
-    → Follows f body (leaves program frame exit (going (frame ∷ frames) s)) (leaves program (textual_frame f frame) exit (textual f (going (frame ∷ frames) s)))
-Follows-leaves program f body frame frames exit s here are =
-    Follows-moved f body _ _ _
-    (ap (λ r. given r (λ tops. going (replaces_top tops (map (textual_frame f) (frame ∷ frames))) s) (textual f (going (frame ∷ frames) s)))
-    (landed_frames-text program f frame s.heap (continuations exit) are))
-    (Follows-landed f body (landed_frames program frame s.heap (continuations exit)) frame frames s here
-    (IfOk-landed_frames program frame s.heap (continuations exit) are))
-
--- the same, whether or not the exit takes a turn
-Follows-exit : (program : ProgramView) (f : FunId) (body : BodyView) (frame : Frame) (frames : List Frame) (exit : Exit) (anchor : Bool) (s : State) → AreHere body (frame ∷ frames)
-    → AllByRecursion (λ continuation. IsTextTarget continuation.target.code) (continuations exit)
-    → Follows f body (leaves program frame exit (takes_exit_turn anchor (going (frame ∷ frames) s)))
-    (leaves program (textual_frame f frame) exit (takes_exit_turn anchor (textual f (going (frame ∷ frames) s))))
-Follows-exit program f body frame frames exit true s here are = Follows-leaves program f body frame frames exit s here are
-Follows-exit program f body frame frames exit false s here are = Follows-leaves program f body frame frames exit (takes_turn s) here are
-
--- the frame goes on or leaves
-Follows-assumes : (program : ProgramView) (f : FunId) (body : BodyView) (frame : Frame) (frames : List Frame) (exit : Exit) (next : List ℕ) (holds : Bool) (s : State)
-    → AreHere body (frame ∷ frames) → AllByRecursion (λ continuation. IsTextTarget continuation.target.code) (continuations exit)
-    → Follows f body (assumes program frame exit next holds (going (frame ∷ frames) s)) (assumes program (textual_frame f frame) exit next holds (textual f (going (frame ∷ frames) s)))
-Follows-assumes program f body frame frames exit next true s here are = record { same = refl; here = here }
-Follows-assumes program f body frame frames exit next false s here are =
-    Follows-exit program f body frame frames exit (is_anchor frame.label) s here are
-
 -- where there is no anchor a frame isn't told to leave
-stays-plain : (leaves anchor holds : Bool) → anchor ≡ false → holds ≡ cond (leaves && anchor) false holds
-stays-plain true anchor holds is = ap (λ test. cond test false holds) (sym is)
-stays-plain false anchor holds is = refl
+untold : (leaves anchor : Bool) → anchor ≡ false → false ≡ leaves && anchor
+untold true anchor is = sym is
+untold false anchor is = refl
 
--- an instruction of a text
-Follows-act : (program : ProgramView) (leaves : Bool) (f : FunId) (body : BodyView) (frame : Frame) (frames : List Frame) (instr : Instr) (next : List ℕ) (s : State)
-    → AreHere body (frame ∷ frames) → is_anchor frame.label ≡ false
+-- an assume does the same in both frames
+assume-textual : (program : ProgramView) (f : FunId) (frame : Frame) (exit : Exit) (next : List ℕ) (world : World) (r : Result Bool Trap)
+    → AllByRecursion (λ continuation. IsTextTarget continuation.target.code) (continuations exit)
+    → does_try program (textual_frame f frame) exit next world false r ≡ does_try program frame exit next world false r
+assume-textual program f frame exit next world (Err trap) are = refl
+assume-textual program f frame exit next world (Ok true) are = refl
+assume-textual program f frame exit next world (Ok false) are =
+    let leaving : Result (List Frame) Trap → Effect =
+    λ frames. record { turn = not (is_anchor frame.label); deed = tried frames lands } in
+    ap leaving (landed_frames-text program f frame world.heap (continuations exit) are)
+
+-- so does an instruction of a text
+effect-textual : (program : ProgramView) (leaves : Bool) (f : FunId) (frame : Frame) (world : World) (instr : Instr) (next : List ℕ)
+    → is_anchor frame.label ≡ false → AllByRecursion (λ continuation. IsTextTarget continuation.target.code) (continuations_of instr)
+    → effect program false (textual_frame f frame) world instr next ≡ effect program leaves frame world instr next
+effect-textual program leaves f frame world (Var x e) next named are = refl
+effect-textual program leaves f frame world (Drop x) next named are = refl
+effect-textual program leaves f frame world (Assign x e) next named are = refl
+effect-textual program leaves f frame world (ArrayLength x e) next named are = refl
+effect-textual program leaves f frame world (ArrayList x es) next named are = refl
+effect-textual program leaves f frame world (Store x index e) next named are = refl
+effect-textual program leaves f frame world (Read x) next named are = refl
+effect-textual program leaves f frame world (Print e) next named are = refl
+effect-textual program leaves f frame world (Branch e first second) next named are = refl
+effect-textual program leaves f frame world (Goto label) next named are = refl
+effect-textual program leaves f frame world (Call x callee es) next named are = refl
+effect-textual program leaves f frame world (Return e) next named are = refl
+effect-textual program leaves f frame world Stop next named are = refl
+effect-textual program leaves f frame world (Assume es exit) next named are =
+    let held : Result Bool Trap = holds_each frame.environment world.heap es in
+    assume-textual program f frame exit next world held are
+    ∙ ap (λ told. does_try program frame exit next world told held) (untold leaves (is_anchor frame.label) named)
+
+-- a deed of an instruction of a text
+Follows-done : (program : ProgramView) (f : FunId) (body : BodyView) (frame : Frame) (frames : List Frame) (instr : Instr)
+    (next : List ℕ) (deed : Deed) (s : State) → AreHere body (frame ∷ frames)
     → AllByRecursion (λ continuation. IsTextTarget continuation.target.code) (continuations_of instr)
-    → Follows f body (act program (free_choice leaves) frame instr next (going (frame ∷ frames) s))
-    (act program text_choice (textual_frame f frame) instr next (textual f (going (frame ∷ frames) s)))
-Follows-act program leaves f body frame frames (Var x e) next s here plain are =
-    Follows-given f body (eval frame.environment s.heap e) _ _ (going (frame ∷ frames) s) here (λ value. record { same = refl; here = here })
-Follows-act program leaves f body frame frames (Drop x) next s here plain are = record { same = refl; here = here }
-Follows-act program leaves f body frame frames (Assign x e) next s here plain are =
-    Follows-given f body (eval frame.environment s.heap e) _ _ (going (frame ∷ frames) s) here (λ value. record { same = refl; here = here })
-Follows-act program leaves f body frame frames (ArrayLength x e) next s here plain are =
-    Follows-given f body (eval frame.environment s.heap e) _ _ (going (frame ∷ frames) s) here
-    (λ value. Follows-makes_empty f body frame frames x (number_in value) next s here)
-Follows-act program leaves f body frame frames (ArrayList x es) next s here plain are =
-    Follows-given f body (eval_each frame.environment s.heap es) _ _ (going (frame ∷ frames) s) here
-    (λ cells. Follows-makes f body frame frames x cells next s here)
-Follows-act program leaves f body frame frames (Store x index e) next s here plain are =
-    Follows-given f body (eval frame.environment s.heap e) _ _ (going (frame ∷ frames) s) here
-    (λ value. Follows-writes f body frame frames (operand frame.environment (simple.Var x)) (number_in (operand frame.environment index)) value next s here)
-Follows-act program leaves f body frame frames (Read x) next s here plain are = Follows-reads f body frame frames x s.rest next s here
-Follows-act program leaves f body frame frames (Print e) next s here plain are =
-    Follows-given f body (eval frame.environment s.heap e) _ _ (going (frame ∷ frames) s) here
-    (λ value. Follows-prints f body frame frames (value_text program s.heap value ++ 10 ∷ []) next s here)
-Follows-act program leaves f body frame frames (Branch e first second) next s here plain are =
-    Follows-given f body (eval frame.environment s.heap e) _ _ (takes_turn (going (frame ∷ frames) s)) here
-    (λ value. Follows-branches f body frame frames (truth_in value) first second (takes_turn s) here)
-Follows-act program leaves f body frame frames (Goto label) next s here plain are = record { same = refl; here = here }
-Follows-act program leaves f body frame frames (Call x callee es) next s here plain are =
-    Follows-given f body (eval_each frame.environment s.heap es) _ _ (takes_turn (going (frame ∷ frames) s)) here
-    (λ values. Follows-calls program f body frame frames x (function_in (operand frame.environment callee)) values next (takes_turn s) here)
-Follows-act program leaves f body frame frames (Return e) next s here plain are =
-    Follows-given f body (eval frame.environment s.heap e) _ _ (takes_turn (going (frame ∷ frames) s)) here
-    (λ value. Follows-returns f body value frame frames (takes_turn s) here)
-Follows-act program leaves f body frame frames Stop next s here plain are = record { same = refl; here = here }
-Follows-act program leaves f body frame frames (Assume es exit) next s here plain are =
-    Follows-given f body (holds_each frame.environment s.heap es) _ _ (going (frame ∷ frames) s) here
-    (λ holds. Follows-moved f body _ _ _
-    (ap (λ test. assumes program (textual_frame f frame) exit next test (textual f (going (frame ∷ frames) s))) (stays-plain leaves (is_anchor frame.label) holds plain))
-    (Follows-assumes program f body frame frames exit next (stays (free_choice leaves) frame.label holds) s here are))
+    → IsDeedOf program frame s.heap instr next deed
+    → Follows f body (done program text_version deed (going (frame ∷ frames) s)) (done program text_version deed (textual f (going (frame ∷ frames) s)))
+Follows-done program f body frame frames instr next (goes label environment world) s here are is =
+    record { same = refl; here = here }
+Follows-done program f body frame frames instr next (asks x g values label) s here are is =
+    Follows-calls program f body frame frames x g values label s here
+Follows-done program f body frame frames instr next (gives value) s here are is =
+    Follows-returns f body value frame frames s here
+Follows-done program f body frame frames instr next (lands tops) s here are is =
+    let Targets : Instr → Type 0 = λ i. AllByRecursion (λ continuation. IsTextTarget continuation.target.code) (continuations_of i) in
+    let targets : Targets (Assume is.0 is.1) = subst Targets is.2 are in
+    let texts : AreText tops = IfOk-at_ok AreText is.3 (IfOk-landed_frames program frame s.heap (continuations is.1) targets) in
+    record { same = ap (λ all. going all s) (map-text f tops frames texts); here = AreHere-text body tops frames texts here.1 }
+Follows-done program f body frame frames instr next (finishes ending) s here are is = record { same = refl; here = here }
 
 -- the first of the lines from the top frame's label on
-Follows-act_first : (program : ProgramView) (leaves : Bool) (f : FunId) (body : BodyView) (frame : Frame) (frames : List Frame) (all lines : List Line) (s : State)
+Follows-first : (program : ProgramView) (leaves : Bool) (f : FunId) (body : BodyView) (frame : Frame) (frames : List Frame) (all lines : List Line) (s : State)
     → AreHere body (frame ∷ frames) → AllByRecursion IsTextLine all → from_label frame.label all ≡ lines
-    → Follows f body (act_first program (free_choice leaves) frame lines (going (frame ∷ frames) s))
-    (act_first program text_choice (textual_frame f frame) lines (textual f (going (frame ∷ frames) s)))
-Follows-act_first program leaves f body frame frames all [] s here are stands = record { same = refl; here = here }
-Follows-act_first program leaves f body frame frames all (line ∷ lines) s here are stands =
+    → Follows f body
+    (applied program text_version (effect_first program leaves frame (world_of s) lines) (going (frame ∷ frames) s))
+    (applied program text_version (effect_first program false (textual_frame f frame) (world_of s) lines) (textual f (going (frame ∷ frames) s)))
+Follows-first program leaves f body frame frames all [] s here are stands = record { same = refl; here = here }
+Follows-first program leaves f body frame frames all (line ∷ lines) s here are stands =
     let is : IsTextLine line = All-from_label IsTextLine frame.label all line lines are stands in
-    let plain : is_anchor frame.label ≡ false =
+    let named : is_anchor frame.label ≡ false =
     ap is_anchor (sym (label-from_label frame.label all line lines stands)) ∙ plain-no_anchor line.label is.plain.begins in
-    Follows-act program leaves f body frame frames line.instr (first_label lines) s here plain is.exits
+    let e : Effect = effect program leaves frame (world_of s) line.instr (first_label lines) in
+    Follows-moved f body _ _ _
+    (ap (λ one. applied program text_version one (textual f (going (frame ∷ frames) s)))
+    (effect-textual program leaves f frame (world_of s) line.instr (first_label lines) named is.exits))
+    (Follows-done program f body frame frames line.instr (first_label lines) e.deed (record s { turns = counted e.turn s.turns }) here is.exits
+    (effect-is program frame (first_label lines) (world_of s) leaves line.instr).does)
 
 -- the lines of a body that is found, if it is
 are-lines-found : (program : ProgramView) (g : FunId) (version : ℕ) (found : Option BodyView) → IsProgram program
@@ -376,18 +290,31 @@ lines_of-textual program f body (made bodies number) first here =
     let same : made_body bodies number ≡ Some body = ap (λ n. made_body bodies n) here.1 ∙ ap (λ all. made_body all 1) here.0 in
     ap (λ (found : Option BodyView). (body_or_empty found).lines) (first.found ∙ sym same)
 
--- a state of these parts
+-- a run, by its frames and its end
 Follows-parts : (program : ProgramView) (leaves : Bool) (f : FunId) (body : BodyView) (ending : Option Ending) (frames : List Frame) (s : State)
     → HasFirst program f body → AreHere body frames
-    → Follows f body (step program (free_choice leaves) (record s { frames = frames; ending = ending })) (step program text_choice (textual f (record s { frames = frames; ending = ending })))
+    → Follows f body
+    (applied program text_version (effect_unless program leaves (world_of s) frames ending) (record s { frames = frames; ending = ending }))
+    (applied program text_version (effect_unless program false (world_of s) (map (textual_frame f) frames) ending)
+    (textual f (record s { frames = frames; ending = ending })))
 Follows-parts program leaves f body None [] s first here = record { same = refl; here = tt }
 Follows-parts program leaves f body None (frame ∷ frames) s first here =
     Follows-moved f body _ _ _
-    (ap (λ lines. act_first program text_choice (textual_frame f frame) (from_label frame.label lines) (textual f (going (frame ∷ frames) s)))
+    (ap (λ lines. applied program text_version
+    (effect_first program false (textual_frame f frame) (world_of s) (from_label frame.label lines)) (textual f (going (frame ∷ frames) s)))
     (lines_of-textual program f body frame.code first here.0))
-    (Follows-act_first program leaves f body frame frames (lines_of program frame.code) (from_label frame.label (lines_of program frame.code)) s here
+    (Follows-first program leaves f body frame frames (lines_of program frame.code) (from_label frame.label (lines_of program frame.code)) s here
     (are-lines-here program f body frame.code first here.0) refl)
 Follows-parts program leaves f body (Some ending) frames s first here = record { same = refl; here = here }
+
+-- a step
+Follows-step : (program : ProgramView) (leaves : Bool) (f : FunId) (body : BodyView) (s : State) → HasFirst program f body → AreHere body s.frames
+    → Follows f body (step program (free_choice leaves) s) (step program text_choice (textual f s))
+Follows-step program leaves f body s first here =
+    let One : State → Type 0 = λ t. Follows f body t (step program text_choice (textual f s)) in
+    subst One (sym (steps_by_effect program (free_choice leaves) s))
+    (Follows-moved f body _ _ _ (steps_by_effect program text_choice (textual f s))
+    (Follows-parts program leaves f body s.ending s.frames s first here))
 
 -- free steps
 Follows-run : (program : ProgramView) (choices : List Bool) (f : FunId) (body : BodyView) (s : State) → HasFirst program f body → AreHere body s.frames
@@ -395,7 +322,7 @@ Follows-run : (program : ProgramView) (choices : List Bool) (f : FunId) (body : 
 Follows-run program [] f body s first here = record { same = refl; here = here }
 Follows-run program (leaves ∷ more) f body s first here =
     let next : State = step program (free_choice leaves) s in
-    let one : Follows f body next (step program text_choice (textual f s)) = Follows-parts program leaves f body s.ending s.frames s first here in
+    let one : Follows f body next (step program text_choice (textual f s)) = Follows-step program leaves f body s first here in
     Follows-moved f body _ _ _ (ap (text_run program (length more)) one.same) (Follows-run program more f body next first one.here)
 
 -- what runs the one body and versions alone agrees with the same that runs versions alone
