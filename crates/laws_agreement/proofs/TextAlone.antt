@@ -7,7 +7,7 @@ use Rattle.sour_syntax.specs.declared.exit.Code.{Code}
 use Rattle.sour_syntax.specs.declared.exit.Code.TheVariants.{Text, Made}
 use Rattle.sour_syntax.specs.declared.exit.Exit.{Exit}
 use Rattle.sour_syntax.specs.declared.instruction.Instr.{Instr}
-use Rattle.sour_syntax.specs.declared.instruction.Instr.TheVariants.{Var, Drop, Assign, ArrayLength, ArrayList, Store, Print, Read, Branch, Goto, Call, Return, Stop, Assume}
+use Rattle.sour_syntax.specs.declared.instruction.Instr.TheVariants.{Assume}
 use Rattle.sour_syntax.specs.declared.instruction.Line.{Line}
 use Rattle.sour_syntax.specs.declared.literal.FunId.{FunId}
 use Rattle.sour_syntax.specs.declared.literal.Value.{Value}
@@ -205,23 +205,11 @@ assume-textual program f frame exit next world (Ok false) are =
 effect-textual : (program : ProgramView) (leaves : Bool) (f : FunId) (frame : Frame) (world : World) (instr : Instr) (next : List ℕ)
     → is_anchor frame.label ≡ false → AllByRecursion (λ continuation. IsTextTarget continuation.target.code) (continuations_of instr)
     → effect program false (textual_frame f frame) world instr next ≡ effect program leaves frame world instr next
-effect-textual program leaves f frame world (Var x e) next named are = refl
-effect-textual program leaves f frame world (Drop x) next named are = refl
-effect-textual program leaves f frame world (Assign x e) next named are = refl
-effect-textual program leaves f frame world (ArrayLength x e) next named are = refl
-effect-textual program leaves f frame world (ArrayList x es) next named are = refl
-effect-textual program leaves f frame world (Store x index e) next named are = refl
-effect-textual program leaves f frame world (Read x) next named are = refl
-effect-textual program leaves f frame world (Print e) next named are = refl
-effect-textual program leaves f frame world (Branch e first second) next named are = refl
-effect-textual program leaves f frame world (Goto label) next named are = refl
-effect-textual program leaves f frame world (Call x callee es) next named are = refl
-effect-textual program leaves f frame world (Return e) next named are = refl
-effect-textual program leaves f frame world Stop next named are = refl
 effect-textual program leaves f frame world (Assume es exit) next named are =
     let held : Result Bool Trap = holds_each frame.environment world.heap es in
     assume-textual program f frame exit next world held are
     ∙ ap (λ told. does_try program frame exit next world told held) (untold leaves (is_anchor frame.label) named)
+effect-textual program leaves f frame world instr next named are = refl
 
 -- a deed of an instruction of a text
 Follows-done : (program : ProgramView) (f : FunId) (body : BodyView) (frame : Frame) (frames : List Frame) (instr : Instr)

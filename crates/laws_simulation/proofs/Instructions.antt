@@ -5,7 +5,7 @@ use Rattle.std.proofs.lemmas.Slice.Eq.{bytes_eq-Decides}
 use Rattle.sour_syntax.specs.declared.exit.Exit.{Exit}
 use Rattle.sour_syntax.specs.declared.expression.Expr.{Expr}
 use Rattle.sour_syntax.specs.declared.instruction.Instr.{Instr}
-use Rattle.sour_syntax.specs.declared.instruction.Instr.TheVariants.{Var, Drop, Assign, ArrayLength, ArrayList, Store, Print, Read, Branch, Goto, Call, Return, Stop, Assume}
+use Rattle.sour_syntax.specs.declared.instruction.Instr.TheVariants.{Branch, Goto, Return, Stop, Assume}
 use Rattle.sour_syntax.specs.Exits.{continuations_of}
 use Rattle.sour_syntax.specs.Jumps.{named_labels}
 use Rattle.sour_syntax.specs.Program.{ProgramView}
@@ -19,20 +19,8 @@ pub assume-cases : (P : Instr → Instr → Type 0) (predicates : List Expr → 
     → ((instr : Instr) → continuations_of instr ≡ [] → P instr instr)
     → ((es : List Expr) (exit : Exit) → P (Assume es exit) (Assume (predicates es) (exits exit)))
     → (instr : Instr) → P instr (with_assume predicates exits instr)
-assume-cases P predicates exits same assume (Var x e) = same (Var x e) refl
-assume-cases P predicates exits same assume (Drop x) = same (Drop x) refl
-assume-cases P predicates exits same assume (Assign x e) = same (Assign x e) refl
-assume-cases P predicates exits same assume (ArrayLength x e) = same (ArrayLength x e) refl
-assume-cases P predicates exits same assume (ArrayList x es) = same (ArrayList x es) refl
-assume-cases P predicates exits same assume (Store x index e) = same (Store x index e) refl
-assume-cases P predicates exits same assume (Print e) = same (Print e) refl
-assume-cases P predicates exits same assume (Read x) = same (Read x) refl
-assume-cases P predicates exits same assume (Branch e a b) = same (Branch e a b) refl
-assume-cases P predicates exits same assume (Goto a) = same (Goto a) refl
-assume-cases P predicates exits same assume (Call x callee es) = same (Call x callee es) refl
-assume-cases P predicates exits same assume (Return e) = same (Return e) refl
-assume-cases P predicates exits same assume Stop = same Stop refl
 assume-cases P predicates exits same assume (Assume es exit) = assume es exit
+assume-cases P predicates exits same assume instr = same instr refl
 
 -- what holds of each instruction that jumps nowhere and itself, and of jumps, holds of each and the changed one
 pub jump-cases : (P : Instr → Instr → Type 0) (labels : List ℕ → List ℕ)
@@ -40,20 +28,9 @@ pub jump-cases : (P : Instr → Instr → Type 0) (labels : List ℕ → List �
     → ((e : Expr) (a b : List ℕ) → P (Branch e a b) (Branch e (labels a) (labels b)))
     → ((a : List ℕ) → P (Goto a) (Goto (labels a)))
     → (instr : Instr) → P instr (with_jumps labels instr)
-jump-cases P labels same branch jump (Var x e) = same (Var x e) refl
-jump-cases P labels same branch jump (Drop x) = same (Drop x) refl
-jump-cases P labels same branch jump (Assign x e) = same (Assign x e) refl
-jump-cases P labels same branch jump (ArrayLength x e) = same (ArrayLength x e) refl
-jump-cases P labels same branch jump (ArrayList x es) = same (ArrayList x es) refl
-jump-cases P labels same branch jump (Store x index e) = same (Store x index e) refl
-jump-cases P labels same branch jump (Print e) = same (Print e) refl
-jump-cases P labels same branch jump (Read x) = same (Read x) refl
 jump-cases P labels same branch jump (Branch e a b) = branch e a b
 jump-cases P labels same branch jump (Goto a) = jump a
-jump-cases P labels same branch jump (Call x callee es) = same (Call x callee es) refl
-jump-cases P labels same branch jump (Return e) = same (Return e) refl
-jump-cases P labels same branch jump Stop = same Stop refl
-jump-cases P labels same branch jump (Assume es exit) = same (Assume es exit) refl
+jump-cases P labels same branch jump instr = same instr refl
 
 -- what holds of an instruction and itself, and at one label of the changed one, holds of it and what stands there
 pub changed_at-cases : (P : Instr → Instr → Type 0) (at : List ℕ) (change : Instr → Instr) (label : List ℕ)
@@ -72,23 +49,8 @@ module _ (next other : List ℕ) where
   pub next-effect : (program : ProgramView) (told : Bool) (frame : Frame) (world : World) (instr : Instr)
       → ((IsTerminator instr → ⊥) → next ≡ other)
       → effect program told frame world instr next ≡ effect program told frame world instr other
-  next-effect program told frame world (Var x e) same = ap (effect program told frame world (Var x e)) (same (λ t. t))
-  next-effect program told frame world (Drop x) same = ap (effect program told frame world (Drop x)) (same (λ t. t))
-  next-effect program told frame world (Assign x e) same =
-      ap (effect program told frame world (Assign x e)) (same (λ t. t))
-  next-effect program told frame world (ArrayLength x e) same =
-      ap (effect program told frame world (ArrayLength x e)) (same (λ t. t))
-  next-effect program told frame world (ArrayList x es) same =
-      ap (effect program told frame world (ArrayList x es)) (same (λ t. t))
-  next-effect program told frame world (Store x index e) same =
-      ap (effect program told frame world (Store x index e)) (same (λ t. t))
-  next-effect program told frame world (Print e) same = ap (effect program told frame world (Print e)) (same (λ t. t))
-  next-effect program told frame world (Read x) same = ap (effect program told frame world (Read x)) (same (λ t. t))
   next-effect program told frame world (Branch e a b) same = refl
   next-effect program told frame world (Goto a) same = refl
-  next-effect program told frame world (Call x callee es) same =
-      ap (effect program told frame world (Call x callee es)) (same (λ t. t))
   next-effect program told frame world (Return e) same = refl
   next-effect program told frame world Stop same = refl
-  next-effect program told frame world (Assume es exit) same =
-      ap (effect program told frame world (Assume es exit)) (same (λ t. t))
+  next-effect program told frame world instr same = ap (effect program told frame world instr) (same (λ t. t))

@@ -2,7 +2,7 @@
 use Rattle.std.proofs.Common.{◌≡◌, ℕ, List, [], ◌∷◌, Option, None, Result, Ok, Err, refl, sym, ap, subst, ◌∙◌, length, replicate}
 use Rattle.std.specs.List.{AllByRecursion}
 use Rattle.sour_syntax.specs.declared.instruction.Instr.{Instr}
-use Rattle.sour_syntax.specs.declared.instruction.Instr.TheVariants.{Var, Drop, Assign, ArrayLength, ArrayList, Store, Print, Read, Branch, Goto, Call, Return, Stop, Assume}
+use Rattle.sour_syntax.specs.declared.instruction.Instr.TheVariants.{Branch, Goto, Assume}
 use Rattle.sour_syntax.specs.declared.literal.Value.{Value}
 use Rattle.sour_syntax.specs.declared.trap.Trap.{Trap}
 use Rattle.sour_syntax.specs.Exits.{Continuation, continuations, continuations_of, bound_names, bound_values}
@@ -81,20 +81,10 @@ module _ (program : ProgramView) (by : Carrying) (frame : Frame) where
   pub carried-jumps : (labels : List ℕ → List ℕ) (instr : Instr)
       → AllLandAlike program by frame.code (continuations_of instr) (continuations_of instr)
       → LabelsBack labels (named_labels instr) → IsCarried program by frame (with_jumps labels instr) instr
-  carried-jumps labels (Var x e) alike names = refl
-  carried-jumps labels (Drop x) alike names = refl
-  carried-jumps labels (Assign x e) alike names = refl
-  carried-jumps labels (ArrayLength x e) alike names = refl
-  carried-jumps labels (ArrayList x es) alike names = refl
-  carried-jumps labels (Store x index e) alike names = refl
-  carried-jumps labels (Print e) alike names = refl
-  carried-jumps labels (Read x) alike names = refl
   carried-jumps labels (Branch e a b) alike names = λ i. Branch e (sym names.0 i) (sym names.1.0 i)
   carried-jumps labels (Goto a) alike names = ap Goto (sym names.0)
-  carried-jumps labels (Call x callee es) alike names = refl
-  carried-jumps labels (Return e) alike names = refl
-  carried-jumps labels Stop alike names = refl
   carried-jumps labels (Assume es exit) alike names = (exit, refl, alike_lands_back program by frame exit exit alike)
+  carried-jumps labels instr alike names = refl
 
   -- an instruction that stays is carried, if all labels stay and its exit lands alike
   pub carried-stays : (instr : Instr) → ((label : List ℕ) → back_label by frame.code label ≡ label)

@@ -2,7 +2,7 @@
 use Rattle.std.specs.Prelude.{◌≡◌, ℕ, List, [], ◌∷◌, Result, Ok, Err, map, length}
 use Rattle.sour_syntax.specs.declared.exit.Exit.{Exit}
 use Rattle.sour_syntax.specs.declared.instruction.Instr.{Instr}
-use Rattle.sour_syntax.specs.declared.instruction.Instr.TheVariants.{Var, Drop, Assign, ArrayLength, ArrayList, Store, Print, Read, Branch, Goto, Call, Return, Stop, Assume}
+use Rattle.sour_syntax.specs.declared.instruction.Instr.TheVariants.{Branch, Goto, Assume}
 use Rattle.sour_syntax.specs.declared.trap.Trap.{Trap}
 use Rattle.sour_syntax.specs.Exits.{Continuation, continuations}
 use Rattle.sour_syntax.specs.Program.{ProgramView}
@@ -54,22 +54,12 @@ LandsBack program by frame exit other = (heap : Heap)
 
 -- an instruction of the new code is the old one but for its labels and its exits
 abbrev pub IsCarried : ProgramView → Carrying → Frame → Instr → Instr → Type 0
-IsCarried program by frame (Var x e) other = other ≡ Var x e
-IsCarried program by frame (Drop x) other = other ≡ Drop x
-IsCarried program by frame (Assign x e) other = other ≡ Assign x e
-IsCarried program by frame (ArrayLength x e) other = other ≡ ArrayLength x e
-IsCarried program by frame (ArrayList x es) other = other ≡ ArrayList x es
-IsCarried program by frame (Store x index e) other = other ≡ Store x index e
-IsCarried program by frame (Print e) other = other ≡ Print e
-IsCarried program by frame (Read x) other = other ≡ Read x
 IsCarried program by frame (Branch e a b) other =
     other ≡ Branch e (back_label by frame.code a) (back_label by frame.code b)
 IsCarried program by frame (Goto a) other = other ≡ Goto (back_label by frame.code a)
-IsCarried program by frame (Call x callee es) other = other ≡ Call x callee es
-IsCarried program by frame (Return e) other = other ≡ Return e
-IsCarried program by frame Stop other = other ≡ Stop
 IsCarried program by frame (Assume es exit) other =
     (old_exit : Exit) × (other ≡ Assume es old_exit) × LandsBack program by frame exit old_exit
+IsCarried program by frame instr other = other ≡ instr
 
 -- an old continuation makes the frame for which the frame of the new one stands
 pub record LandsAlike (program : ProgramView) (by : Carrying) (code : FrameCode) (new old : Continuation) : Type 0 where

@@ -3,9 +3,7 @@ use Rattle.std.proofs.Common.{◌≡◌, ℕ, Bool, true, false, cond, List, [],
 use Rattle.std.proofs.Common.{length, nat_eq, refl, sym, ap, subst, ◌∙◌}
 use Rattle.std.proofs.lemmas.Bool.{eqb-true}
 use Rattle.sour_syntax.specs.declared.instruction.Instr.{Instr}
-use Rattle.sour_syntax.specs.declared.instruction.Instr.TheVariants.{Var, Drop, Assign, ArrayLength, ArrayList, Store}
-use Rattle.sour_syntax.specs.declared.instruction.Instr.TheVariants.{Print, Read, Branch, Goto, Call, Return}
-use Rattle.sour_syntax.specs.declared.instruction.Instr.TheVariants.{Stop, Assume}
+use Rattle.sour_syntax.specs.declared.instruction.Instr.TheVariants.{Call}
 use Rattle.sour_syntax.specs.declared.instruction.Line.{Line}
 use Rattle.sour_syntax.specs.declared.literal.FunId.{FunId}
 use Rattle.sour_syntax.specs.declared.literal.Value.{Value}
@@ -129,22 +127,10 @@ module _ (program : ProgramView) (entry : Entry) where
   counted-act : (frame : Frame) (instr : Instr) (next : List ℕ) (s : State) → MayEnter program entry → s.ending ≡ None
       → IsAsCounted (entered_by program frame s.heap instr) (act program (entry_choice entry) frame instr next s)
       (act program text_choice frame instr next s)
-  counted-act frame (Var x e) next s may going = refl
-  counted-act frame (Drop x) next s may going = refl
-  counted-act frame (Assign x e) next s may going = refl
-  counted-act frame (ArrayLength x e) next s may going = refl
-  counted-act frame (ArrayList x es) next s may going = refl
-  counted-act frame (Store x index e) next s may going = refl
-  counted-act frame (Print e) next s may going = refl
-  counted-act frame (Read x) next s may going = refl
-  counted-act frame (Branch e first second) next s may going = refl
-  counted-act frame (Goto label) next s may going = refl
   counted-act frame (Call x callee es) next s may going =
       counted-calls x (function_in (operand frame.environment callee)) (eval_each frame.environment s.heap es) next
       (takes_turn s) may going
-  counted-act frame (Return e) next s may going = refl
-  counted-act frame Stop next s may going = refl
-  counted-act frame (Assume es exit) next s may going = refl
+  counted-act frame instr next s may going = refl
 
   -- the first of the lines that are left
   counted-first : (frame : Frame) (lines : List Line) (s : State) → MayEnter program entry → s.ending ≡ None
