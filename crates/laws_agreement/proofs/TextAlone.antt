@@ -26,7 +26,7 @@ use Rattle.sour_semantics.specs.Evaluation.{eval_each, holds_each, in_front}
 use Rattle.sour_semantics.specs.Step.{text_version, text_choice, step, is_anchor, enters, calls, entered_frame, resumes, returns, exit_code, bound, landed, landed_frames, body_at, body_or_empty, body_of, lines_of}
 use Rattle.sour_semantics.specs.Run.{start_of, text_run}
 use Rattle.sour_semantics.specs.Agreement.{free_choice, free_run, Match, Agree}
-use Rattle.sour_semantics.proofs.Anchors.{plain-no_anchor}
+use Rattle.sour_semantics.proofs.Anchors.{word-no_anchor}
 use Rattle.laws_effects.specs.Effect.{World, world_of, Deed, goes, asks, gives, lands, finishes, Effect, tried, does_try, effect, done, counted, applied, effect_first, effect_unless}
 use Rattle.laws_effects.specs.Onward.{IsDeedOf}
 use Rattle.laws_effects.proofs.Onward.{effect-is}
@@ -240,7 +240,7 @@ Follows-first program leaves f body frame frames all [] s here are stands = reco
 Follows-first program leaves f body frame frames all (line ∷ lines) s here are stands =
     let is : IsTextLine line = All-from_label IsTextLine frame.label all line lines are stands in
     let named : is_anchor frame.label ≡ false =
-    ap is_anchor (sym (label-from_label frame.label all line lines stands)) ∙ plain-no_anchor line.label is.plain.begins in
+    ap is_anchor (sym (label-from_label frame.label all line lines stands)) ∙ word-no_anchor line.label is.label.begins in
     let e : Effect = effect program leaves frame (world_of s) line.instr (first_label lines) in
     Follows-moved f body _ _ _
     (ap (λ one. applied program text_version one (textual f (going (frame ∷ frames) s)))

@@ -10,9 +10,9 @@ use Rattle.sour_syntax.specs.declared.program.Function.{Function}
 use Rattle.sour_syntax.specs.declared.program.Version.{Version}
 use Rattle.sour_syntax.specs.BodyView.{BodyView}
 use Rattle.sour_syntax.specs.Exits.{Continuation, continuations_of}
-use Rattle.sour_syntax.specs.Program.{ProgramView, BeginsPlain, IsPlainName, IsVersion, AreFunctions, IsProgram}
+use Rattle.sour_syntax.specs.Program.{ProgramView, BeginsAsWord, IsUnqualifiedName, IsVersion, AreFunctions, IsProgram}
 use Rattle.sour_syntax.specs.Targets.{version_body, text_body, named_body, IsNamed}
-use Rattle.sour_syntax.proofs.PlainNames.{plain_labels}
+use Rattle.sour_syntax.proofs.UnqualifiedNames.{unqualified_labels}
 use Rattle.sour_semantics.specs.Shape.{without_at, BeginsWith}
 use Rattle.sour_semantics.proofs.Anchors.{no_at}
 
@@ -54,10 +54,10 @@ IsVersionBody-program program f version body is found =
     let same : 0 + f.0 ≡ f.0 = omega arith in
     subst Numbered same (IsVersionBody-function program.functions 0 program.functions f.0 version body is.each found)
 
--- a label that begins plainly has no `@` to take away
-pub plain-without_at : (label : List ℕ) → BeginsPlain label → without_at label ≡ label
-plain-without_at [] plain = absurd plain
-plain-without_at (byte ∷ bytes) plain = ap (λ test. cond test bytes (byte ∷ bytes)) (no_at byte plain)
+-- a label that begins as a word does has no `@` to take away
+pub word-without_at : (label : List ℕ) → BeginsAsWord label → without_at label ≡ label
+word-without_at [] begins = absurd begins
+word-without_at (byte ∷ bytes) begins = ap (λ test. cond test bytes (byte ∷ bytes)) (no_at byte begins)
 
 -- bytes among which a `/` stands have one
 has_slash : (label rest : List ℕ) → AllByRecursion (λ byte. byte ≢ 47) ((label ++ 47 ∷ []) ++ rest) → ⊥
@@ -81,9 +81,9 @@ IsTextTarget-named functions (Text f version) body found = tt
 IsTextTarget-named functions (Made zero) body found = none-some body found
 IsTextTarget-named functions (Made (suc place)) body found = none-some body found
 
--- a line of a text has a plain label, and leaves for versions alone
+-- a line of a text has an unqualified label, and leaves for versions alone
 pub record IsTextLine (line : Line) : Type 0 where
-  pub plain : IsPlainName line.label
+  pub label : IsUnqualifiedName line.label
   pub exits : AllByRecursion (λ continuation. IsTextTarget continuation.target.code) (continuations_of line.instr)
 
 -- so do continuations that are named where there is no made body
@@ -94,14 +94,14 @@ are-text functions (continuation ∷ others) named =
     (IsTextTarget-named functions continuation.target.code named.0.body named.0.found, are-text functions others named.1)
 
 -- the lines of a version
-are-lines : (functions : List Function) (lines : List Line) → AllByRecursion (λ line. IsPlainName line.label) lines
+are-lines : (functions : List Function) (lines : List Line) → AllByRecursion (λ line. IsUnqualifiedName line.label) lines
     → AllByRecursion (λ line. AllByRecursion (IsNamed functions []) (continuations_of line.instr)) lines → AllByRecursion IsTextLine lines
-are-lines functions [] plain named = tt
-are-lines functions (line ∷ lines) plain named =
-    (record { plain = plain.0; exits = are-text functions (continuations_of line.instr) named.0 }, are-lines functions lines plain.1 named.1)
+are-lines functions [] unqualified named = tt
+are-lines functions (line ∷ lines) unqualified named =
+    (record { label = unqualified.0; exits = are-text functions (continuations_of line.instr) named.0 }, are-lines functions lines unqualified.1 named.1)
 
 -- the lines of the body of a version
 pub text-lines : (functions : List Function) (number : ℕ) (body : BodyView) → IsVersionBody functions number body → AllByRecursion IsTextLine body.lines
 text-lines functions number body of =
     let Lines : BodyView → Type 0 = λ b. AllByRecursion IsTextLine b.lines in
-    subst Lines of.same (are-lines functions of.version.body.lines (plain_labels functions number of.parameters of.version of.is) of.is.exits.named)
+    subst Lines of.same (are-lines functions of.version.body.lines (unqualified_labels functions number of.parameters of.version of.is) of.is.exits.named)

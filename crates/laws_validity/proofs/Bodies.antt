@@ -14,17 +14,17 @@ use Rattle.sour_syntax.specs.declared.program.Version.{Version}
 use Rattle.sour_syntax.specs.Body.{IsBody}
 use Rattle.sour_syntax.specs.BodyView.{BodyView}
 use Rattle.sour_syntax.specs.Exits.{Continuation, continuations_of, bound_names}
-use Rattle.sour_syntax.specs.Program.{ProgramView, HasLiterals, IsPlainName, IsVersion, IsFunction, AreFunctions, IsProgram}
+use Rattle.sour_syntax.specs.Program.{ProgramView, HasLiterals, IsUnqualifiedName, IsVersion, IsFunction, AreFunctions, IsProgram}
 use Rattle.sour_syntax.specs.Scopes.{Scope, scope_with, IsLineAt, HasScope}
 use Rattle.sour_syntax.specs.Targets.{version_body, text_body, named_body, scope_of_names, Lands}
 use Rattle.sour_syntax.proofs.Everywhere.{AllByRecursion-weaker, IfSome-slice_get, slice_get-front}
 use Rattle.sour_syntax.proofs.NamedScopes.{length-scope_of_names}
-use Rattle.sour_syntax.proofs.PlainNames.{plain_labels}
+use Rattle.sour_syntax.proofs.UnqualifiedNames.{unqualified_labels}
 use Rattle.sour_semantics.specs.State.{FrameCode, text, made}
 use Rattle.sour_semantics.specs.Step.{body_at, exit_code, is_anchor}
 use Rattle.sour_semantics.specs.Shape.{HasMadeLabel, IsMadeBody, AreMadeBodies}
 use Rattle.sour_semantics.specs.Validity.{IsCode}
-use Rattle.sour_semantics.proofs.Anchors.{plain-no_anchor}
+use Rattle.sour_semantics.proofs.Anchors.{word-no_anchor}
 
 -- the number of a body in its bundle; a version of the text has none, and counts as 0
 abbrev pub depth : FrameCode → ℕ
@@ -107,10 +107,10 @@ IsBodyOf-version program function place number parameters version is = record {
   literals = is.literals;
   lines = is.lines;
   low = omega arith;
-  anchors = AllByRecursion-weaker (λ (line : Line). IsPlainName line.label)
+  anchors = AllByRecursion-weaker (λ (line : Line). IsUnqualifiedName line.label)
       (λ (line : Line). is_anchor line.label ≡ true → 0 < depth (text function place))
-      (λ line plain anchor. absurd (false≢true (sym (plain-no_anchor line.label plain.begins) ∙ anchor))) version.body.lines
-      (plain_labels program.functions number parameters version is);
+      (λ line unqualified anchor. absurd (false≢true (sym (word-no_anchor line.label unqualified.begins) ∙ anchor))) version.body.lines
+      (unqualified_labels program.functions number parameters version is);
   leads = λ count label scope line rest path at.
       AllByRecursion-weaker (Lands program.functions []) (Leads program (text function place))
       (λ continuation. Leads-lands program (text function place) [] continuation

@@ -12,7 +12,7 @@ use Rattle.sour_syntax.specs.Body.{IsBody}
 use Rattle.sour_syntax.specs.BodyView.{BodyView}
 use Rattle.sour_syntax.specs.Exits.{exit_values}
 use Rattle.sour_syntax.specs.Limits.{IsShortInstr}
-use Rattle.sour_syntax.specs.Program.{ProgramView, NamesDiffer, HasLiterals, BeginsPlain}
+use Rattle.sour_syntax.specs.Program.{ProgramView, NamesDiffer, HasLiterals, BeginsAsWord}
 use Rattle.sour_syntax.specs.Scopes.{Scope, HasScope}
 use Rattle.sour_syntax.specs.Targets.{text_body, made_body, HasExits}
 use Rattle.sour_semantics.specs.State.{BundleView}
@@ -95,7 +95,7 @@ BeginsWith front name = (rest : List ℕ) × (name ≡ front ++ rest)
 
 -- a line of a made body has a label by its kind
 pub record HasMadeLabel (line : Line) : Type 0 where
-  pub begins : BeginsPlain (without_at line.label)
+  pub begins : BeginsAsWord (without_at line.label)
   pub anchor : IsTrue (is_anchor line.label) → IsAnchorInstr line.instr
 
 -- neither a label nor a variable of the body begins with this label and `/`

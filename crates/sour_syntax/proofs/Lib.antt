@@ -10,7 +10,7 @@ pub mod ScopeLists
 pub mod NamedScopes
 pub mod NoExits
 pub mod AutomaticLabels
-pub mod PlainNames
+pub mod UnqualifiedNames
 pub mod ScopeTests
 pub mod PlaceLists
 pub mod FirstPlaces

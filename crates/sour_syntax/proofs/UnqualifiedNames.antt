@@ -8,8 +8,8 @@ use Rattle.sour_syntax.specs.declared.program.Function.{Function}
 use Rattle.sour_syntax.specs.declared.program.Version.{Version}
 use Rattle.sour_syntax.specs.Labels.{automatic_label}
 use Rattle.sour_syntax.specs.Name.{IsName}
-use Rattle.sour_syntax.specs.Program.{IsPlainName, HasLabels, IsVersion}
-use Rattle.sour_syntax.proofs.AutomaticLabels.{plain_automatic}
+use Rattle.sour_syntax.specs.Program.{IsUnqualifiedName, HasLabels, IsVersion}
+use Rattle.sour_syntax.proofs.AutomaticLabels.{unqualified_automatic}
 
 -- a byte with which a word goes on isn't `/`
 not_slash : (byte : ℕ) → continues_word byte ≡ true → byte ≢ 47
@@ -25,10 +25,10 @@ none_slash (byte ∷ bytes) all =
 begins_not_slash : (byte : ℕ) → begins_word byte ≡ true → byte ≢ 47
 begins_not_slash byte goes same = let at : begins_word 47 ≡ true = ap begins_word (sym same) ∙ goes in cc
 
--- a name is plain
-plain_name : (name : List ℕ) → IsName name → IsPlainName name
-plain_name [] is = absurd is.word
-plain_name (byte ∷ bytes) is = record {
+-- a name is unqualified
+unqualified_name : (name : List ℕ) → IsName name → IsUnqualifiedName name
+unqualified_name [] is = absurd is.word
+unqualified_name (byte ∷ bytes) is = record {
   begins = is.word.0;
   whole = (
     begins_not_slash byte is.word.0,
@@ -36,27 +36,27 @@ plain_name (byte ∷ bytes) is = record {
   );
 }
 
--- names are plain
-plain_names : (names : List (List ℕ)) → AllByRecursion IsName names → AllByRecursion IsPlainName names
-plain_names [] all = tt
-plain_names (name ∷ names) all = (plain_name name all.0, plain_names names all.1)
+-- names are unqualified
+unqualified_names : (names : List (List ℕ)) → AllByRecursion IsName names → AllByRecursion IsUnqualifiedName names
+unqualified_names [] all = tt
+unqualified_names (name ∷ names) all = (unqualified_name name all.0, unqualified_names names all.1)
 
--- a label that is a name is plain, and so is an automatic one
-plain_label : (label : List ℕ) (place : ℕ) → place < 2 ^ 64 → (IsName label ⊎ (label ≡ automatic_label place)) → IsPlainName label
-plain_label label place small (inl name) = plain_name label name
-plain_label label place small (inr automatic) = subst IsPlainName (sym automatic) (plain_automatic place small)
+-- a label that is a name is unqualified, and so is an automatic one
+unqualified_label : (label : List ℕ) (place : ℕ) → place < 2 ^ 64 → (IsName label ⊎ (label ≡ automatic_label place)) → IsUnqualifiedName label
+unqualified_label label place small (inl name) = unqualified_name label name
+unqualified_label label place small (inr automatic) = subst IsUnqualifiedName (sym automatic) (unqualified_automatic place small)
 
--- lines whose labels are such have plain labels, as long as their places fit in 64 bits
-plain_lines : (place : ℕ) (lines : List Line) → place + length lines < 2 ^ 64 → HasLabels place lines → AllByRecursion (λ (line : Line). IsPlainName line.label) lines
-plain_lines place [] small labels = tt
-plain_lines place (line ∷ lines) small labels =
-    (plain_label line.label place (omega arith) labels.0, plain_lines (suc place) lines (omega arith) labels.1)
+-- lines whose labels are such have unqualified labels, as long as their places fit in 64 bits
+unqualified_lines : (place : ℕ) (lines : List Line) → place + length lines < 2 ^ 64 → HasLabels place lines → AllByRecursion (λ (line : Line). IsUnqualifiedName line.label) lines
+unqualified_lines place [] small labels = tt
+unqualified_lines place (line ∷ lines) small labels =
+    (unqualified_label line.label place (omega arith) labels.0, unqualified_lines (suc place) lines (omega arith) labels.1)
 
 module _ (functions : List Function) (number : ℕ) (parameters : List (List ℕ)) (version : Version) (is : IsVersion functions number parameters version) where
-  -- the labels of a version are plain
-  pub plain_labels : AllByRecursion (λ (line : Line). IsPlainName line.label) version.body.lines
-  plain_labels = plain_lines 0 version.body.lines (omega (arith, is.lines)) is.labels
+  -- the labels of a version are unqualified
+  pub unqualified_labels : AllByRecursion (λ (line : Line). IsUnqualifiedName line.label) version.body.lines
+  unqualified_labels = unqualified_lines 0 version.body.lines (omega (arith, is.lines)) is.labels
 
   -- and so are the names of its variables
-  pub plain_variables : AllByRecursion IsPlainName version.body.variables
-  plain_variables = plain_names version.body.variables is.names
+  pub unqualified_variables : AllByRecursion IsUnqualifiedName version.body.variables
+  unqualified_variables = unqualified_names version.body.variables is.names

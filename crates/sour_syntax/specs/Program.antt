@@ -29,14 +29,14 @@ NamesDiffer (name ∷ names) = AllByRecursion (λ other. other ≢ name) names �
 abbrev pub HasLiterals : ℕ → List Line → Type 0
 HasLiterals functions lines = AllByRecursion (λ line. AllByRecursion (IsLiteral functions) (literals_of line.instr)) lines
 
--- the first byte is a letter or `_`
-abbrev pub BeginsPlain : List ℕ → Type 0
-BeginsPlain [] = ⊥
-BeginsPlain (byte ∷ bytes) = IsTrue (is_ascii_alphabetic byte || nat_eq byte 95)
+-- the first byte is a letter or `_`, as that of a word
+abbrev pub BeginsAsWord : List ℕ → Type 0
+BeginsAsWord [] = ⊥
+BeginsAsWord (byte ∷ bytes) = IsTrue (is_ascii_alphabetic byte || nat_eq byte 95)
 
--- a name begins with a letter or `_`, and has no `/`
-pub record IsPlainName (name : List ℕ) : Type 0 where
-  pub begins : BeginsPlain name
+-- a name begins as a word does, and has no `/`
+pub record IsUnqualifiedName (name : List ℕ) : Type 0 where
+  pub begins : BeginsAsWord name
   pub whole : AllByRecursion (λ byte. byte ≢ 47) name
 
 -- each label is a name, or the automatic one of its line, where the first of the lines stands at this place
