@@ -5,7 +5,7 @@ use Rattle.std.specs.Str.{bytes_eq}
 use Rattle.std.proofs.lemmas.List.Elements.{All-from_recursion, All-contains, All-map}
 use Rattle.std.proofs.lemmas.Slice.Eq.{bytes_eq-Decides}
 use Rattle.sour_syntax.specs.declared.instruction.Instr.{Instr}
-use Rattle.sour_syntax.specs.declared.instruction.Instr.TheVariants.{Var, Drop, Assign, ArrayLength, ArrayList, Store, Print, Read, Branch, Goto, Call, Return, Stop, Assume}
+use Rattle.sour_syntax.specs.declared.instruction.Instr.TheVariants.{Branch, Goto, Return, Stop}
 use Rattle.sour_syntax.specs.declared.instruction.Line.{Line}
 use Rattle.sour_syntax.specs.Body.{IsBody}
 use Rattle.sour_syntax.specs.BodyView.{BodyView}
@@ -69,20 +69,11 @@ named_at label lines known not =
 -- what follows an instruction is the line behind it, where it is no terminator, or has a label that it names
 followed : (instr : Instr) (next label : List ℕ) → Contains (following_labels instr next) label
     → ((IsTerminator instr → ⊥) × (label ≡ next)) ⊎ Contains (named_labels instr) label
-followed (Var x e) next label contains = inl ((λ none. none), Contains-one next label contains)
-followed (Drop x) next label contains = inl ((λ none. none), Contains-one next label contains)
-followed (Assign x e) next label contains = inl ((λ none. none), Contains-one next label contains)
-followed (ArrayLength x e) next label contains = inl ((λ none. none), Contains-one next label contains)
-followed (ArrayList x es) next label contains = inl ((λ none. none), Contains-one next label contains)
-followed (Store x index e) next label contains = inl ((λ none. none), Contains-one next label contains)
-followed (Print e) next label contains = inl ((λ none. none), Contains-one next label contains)
-followed (Read x) next label contains = inl ((λ none. none), Contains-one next label contains)
 followed (Branch e a b) next label contains = inr contains
 followed (Goto a) next label contains = inr contains
-followed (Call x callee es) next label contains = inl ((λ none. none), Contains-one next label contains)
 followed (Return e) next label contains = inr contains
 followed Stop next label contains = inr contains
-followed (Assume es exit) next label contains = inl ((λ none. none), Contains-one next label contains)
+followed instr next label contains = inl ((λ none. none), Contains-one next label contains)
 
 -- there are lines from a label on to which a path leads
 pub reached : (body : BodyView) (count : ℕ) (label : List ℕ) (scope : Scope) → IsBody body → HasScope body count label scope

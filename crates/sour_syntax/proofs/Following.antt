@@ -5,7 +5,7 @@ use Rattle.std.proofs.lemmas.List.{length-map, length-drop}
 use Rattle.std.proofs.lemmas.List.Elements.{Contains-append_right}
 use Rattle.std.proofs.lemmas.Option.{slice_get_within}
 use Rattle.sour_syntax.specs.declared.instruction.Instr.{Instr}
-use Rattle.sour_syntax.specs.declared.instruction.Instr.TheVariants.{Var, Drop, Assign, ArrayLength, ArrayList, Store, Print, Read, Branch, Goto, Call, Return, Stop, Assume}
+use Rattle.sour_syntax.specs.declared.instruction.Instr.TheVariants.{Branch, Goto, Return, Stop}
 use Rattle.sour_syntax.specs.declared.instruction.Line.{Line}
 use Rattle.sour_syntax.specs.declared.jump.Jump.{Jump}
 use Rattle.sour_syntax.specs.Labels.{LabelsDiffer, labels_of, first_label, label_at, from_label, IsPlaceOf}
@@ -43,23 +43,12 @@ same_place lines place other differ within other_within same =
 -- the labels that may follow are those of the places that may follow
 pub following_labels_are : (lines : List Line) (instr : Instr) (jump : Jump) (next : ℕ) → GoesTo lines instr jump
     → following_labels instr (label_at lines next) ≡ map (label_at lines) (following instr jump next)
-following_labels_are lines (Var x e) jump next goes = refl
-following_labels_are lines (Drop x) jump next goes = refl
-following_labels_are lines (Assign x e) jump next goes = refl
-following_labels_are lines (ArrayLength x e) jump next goes = refl
-following_labels_are lines (ArrayList x es) jump next goes = refl
-following_labels_are lines (Store x i e) jump next goes = refl
-following_labels_are lines (Print e) jump next goes = refl
-following_labels_are lines (Read x) jump next goes = refl
 following_labels_are lines (Branch e a b) jump next goes =
     let first : label_at lines jump.first ≡ a = label_at-IsPlaceOf lines a jump.first goes.0 in
     let second : label_at lines jump.second ≡ b = label_at-IsPlaceOf lines b jump.second goes.1 in cc
 following_labels_are lines (Goto a) jump next goes =
     let first : label_at lines jump.first ≡ a = label_at-IsPlaceOf lines a jump.first goes in cc
-following_labels_are lines (Call x callee es) jump next goes = refl
-following_labels_are lines (Return e) jump next goes = refl
-following_labels_are lines Stop jump next goes = refl
-following_labels_are lines (Assume es exit) jump next goes = refl
+following_labels_are lines instr jump next goes = refl
 
 -- behind a line that is no terminator there is a line
 pub next_within : (lines : List Line) (place : ℕ) (line : Line) → EndsInTerminator lines
@@ -77,23 +66,14 @@ next_within (first ∷ second ∷ lines) (suc place) line end at going =
 follow_within : (lines : List Line) (instr : Instr) (jump : Jump) (next : ℕ)
     → ((IsTerminator instr → ⊥) → next < length lines) → GoesTo lines instr jump
     → AllByRecursion (λ place. place < length lines) (following instr jump next)
-follow_within lines (Var x e) jump next on goes = (on (λ no. no), tt)
-follow_within lines (Drop x) jump next on goes = (on (λ no. no), tt)
-follow_within lines (Assign x e) jump next on goes = (on (λ no. no), tt)
-follow_within lines (ArrayLength x e) jump next on goes = (on (λ no. no), tt)
-follow_within lines (ArrayList x es) jump next on goes = (on (λ no. no), tt)
-follow_within lines (Store x i e) jump next on goes = (on (λ no. no), tt)
-follow_within lines (Print e) jump next on goes = (on (λ no. no), tt)
-follow_within lines (Read x) jump next on goes = (on (λ no. no), tt)
 follow_within lines (Branch e a b) jump next on goes = (
   IsPlaceOf-within lines a jump.first goes.0,
   (IsPlaceOf-within lines b jump.second goes.1, tt),
 )
 follow_within lines (Goto a) jump next on goes = (IsPlaceOf-within lines a jump.first goes, tt)
-follow_within lines (Call x callee es) jump next on goes = (on (λ no. no), tt)
 follow_within lines (Return e) jump next on goes = tt
 follow_within lines Stop jump next on goes = tt
-follow_within lines (Assume es exit) jump next on goes = (on (λ no. no), tt)
+follow_within lines instr jump next on goes = (on (λ no. no), tt)
 
 -- each place that may follow is that of a line
 pub following_within : (lines : List Line) (place : ℕ) (line : Line) (jump : Jump) → EndsInTerminator lines
@@ -114,20 +94,11 @@ label_at-there (line ∷ lines) (suc place) within =
 -- what holds of the next label, unless none follows, and of those that an instruction names holds of each that may follow it
 followed : (P : List ℕ → Type 0) (instr : Instr) (next : List ℕ) → ((IsTerminator instr → ⊥) → P next)
     → AllByRecursion P (named_labels instr) → AllByRecursion P (following_labels instr next)
-followed P (Var x e) next on named = (on (λ is. is), tt)
-followed P (Drop x) next on named = (on (λ is. is), tt)
-followed P (Assign x e) next on named = (on (λ is. is), tt)
-followed P (ArrayLength x e) next on named = (on (λ is. is), tt)
-followed P (ArrayList x es) next on named = (on (λ is. is), tt)
-followed P (Store x i e) next on named = (on (λ is. is), tt)
-followed P (Print e) next on named = (on (λ is. is), tt)
-followed P (Read x) next on named = (on (λ is. is), tt)
 followed P (Branch e a b) next on named = named
 followed P (Goto a) next on named = named
-followed P (Call x callee es) next on named = (on (λ is. is), tt)
 followed P (Return e) next on named = tt
 followed P Stop next on named = tt
-followed P (Assume es exit) next on named = (on (λ is. is), tt)
+followed P instr next on named = (on (λ is. is), tt)
 
 -- each label that may follow a line is that of a line
 pub following_labels_there : (lines : List Line) (place : ℕ) (line : Line) → EndsInTerminator lines

@@ -2,7 +2,7 @@
 use Rattle.std.proofs.Common.{◌≡◌, ℕ, zero, suc, ◌+◌, ◌-◌, ◌<◌, ◌≤◌, Bool, true, false, List, [], ◌∷◌, ◌++◌, Option, None, Some, length, take, drop, drop-cons, get_or, slice_get, append_assoc, refl, sym, ap, ◌∙◌, add-one, arith}
 use Rattle.std.proofs.lemmas.List.{append-nil, drop_all, length-append, length-replicate, length-set}
 use Rattle.sour_syntax.specs.declared.instruction.Instr.{Instr}
-use Rattle.sour_syntax.specs.declared.instruction.Instr.TheVariants.{Var, Drop, Assign, ArrayLength, ArrayList, Store, Print, Read, Branch, Goto, Call, Return, Stop, Assume}
+use Rattle.sour_syntax.specs.declared.instruction.Instr.TheVariants.{Var, Drop, ArrayLength, ArrayList, Read, Call}
 use Rattle.sour_syntax.specs.declared.literal.VarId.{VarId}
 use Rattle.sour_syntax.specs.BodyView.{BodyView}
 use Rattle.sour_syntax.specs.Taking.{scope_names}
@@ -88,18 +88,11 @@ scope_names_more names scope count is_in name within said found =
 length_after : (instr : Instr) (scope : Scope) → length (scope_after instr scope) ≡ length scope
 length_after (Var x e) scope = length-set scope x.0 true
 length_after (Drop x) scope = length-set scope x.0 false
-length_after (Assign x e) scope = refl
 length_after (ArrayLength x e) scope = length-set scope x.0 true
 length_after (ArrayList x es) scope = length-set scope x.0 true
-length_after (Store x i e) scope = refl
-length_after (Print e) scope = refl
 length_after (Read x) scope = length-set scope x.0 true
-length_after (Branch e a b) scope = refl
-length_after (Goto a) scope = refl
 length_after (Call x callee es) scope = length-set scope x.0 true
-length_after (Return e) scope = refl
-length_after Stop scope = refl
-length_after (Assume es exit) scope = refl
+length_after instr scope = refl
 
 -- a scope says of each variable whether it is in it
 pub length-HasScope : (body : BodyView) → body.parameters ≤ length body.variables
