@@ -1,5 +1,6 @@
 -- A step is its effect, applied, and what it does to the turns and to the output.
 use Rattle.std.proofs.Common.{◌≡◌, ℕ, Bool, true, false, cond, List, [], ◌∷◌, Option, None, Some, nat_eq, length, refl, sym, subst}
+use Rattle.sour_syntax.specs.declared.instruction.Instr.{Instr}
 use Rattle.sour_syntax.specs.declared.instruction.Line.{Line}
 use Rattle.sour_syntax.specs.declared.literal.FunId.{FunId}
 use Rattle.sour_syntax.specs.declared.literal.Value.{Value}
@@ -8,8 +9,8 @@ use Rattle.sour_syntax.specs.BodyView.{BodyView}
 use Rattle.sour_syntax.specs.Labels.{from_label, first_label}
 use Rattle.sour_syntax.specs.Program.{ProgramView}
 use Rattle.sour_semantics.specs.State.{Frame, FrameCode, State, Ending}
-use Rattle.sour_semantics.specs.Step.{Choice, Entry, step, act_first, lines_of, entered_code, body_at, enters, calls, returns, resumes}
-use Rattle.laws_effects.specs.Effect.{world_of, Deed, goes, asks, gives, lands, finishes, Effect, done, counted, applied, effect_first, effect_unless, effect_next, output_after}
+use Rattle.sour_semantics.specs.Step.{Choice, Entry, step, act, act_first, lines_of, entered_code, body_at, enters, calls, returns, resumes}
+use Rattle.laws_effects.specs.Effect.{world_of, Deed, goes, asks, gives, lands, finishes, Effect, effect, done, counted, applied, effect_first, effect_unless, effect_next, output_after}
 use Rattle.laws_effects.specs.Laws.{StepsByEffect}
 use Rattle.laws_effects.proofs.Effects.{acts_by_effect}
 
@@ -21,7 +22,7 @@ module _ (program : ProgramView) (choice : Choice) where
       (record s { frames = frame ∷ frames; ending = None })
   step-first frame frames [] s = refl
   step-first frame frames (line ∷ lines) s =
-      acts_by_effect program choice frame frames line.instr (first_label lines) s
+      acts_by_effect program choice frame frames line.instr (first_label lines) (record s { ending = None })
 
   -- by the frames and the end
   step-parts : (frames : List Frame) (ending : Option Ending) (s : State)
@@ -88,6 +89,18 @@ Shows-done program entry (finishes ending) s = record { turns = refl; output = r
 pub shown-applied : (program : ProgramView) (entry : Entry) (e : Effect) (s : State)
     → Shows (counted e.turn s.turns) (output_after e.deed s.output) (applied program entry e s)
 shown-applied program entry e s = Shows-done program entry e.deed (record s { turns = counted e.turn s.turns })
+
+-- so does an instruction
+pub shown-act : (program : ProgramView) (choice : Choice) (frame : Frame) (frames : List Frame) (instr : Instr)
+    (next : List ℕ) (s : State)
+    → Shows (counted (effect program choice.leaves frame (world_of s) instr next).turn s.turns)
+    (output_after (effect program choice.leaves frame (world_of s) instr next).deed s.output)
+    (act program choice frame instr next (record s { frames = frame ∷ frames }))
+shown-act program choice frame frames instr next s =
+    let e : Effect = effect program choice.leaves frame (world_of s) instr next in
+    let Shown : State → Type 0 = Shows (counted e.turn s.turns) (output_after e.deed s.output) in
+    subst Shown (sym (acts_by_effect program choice frame frames instr next s))
+    (shown-applied program choice.entry e (record s { frames = frame ∷ frames }))
 
 -- so does a step
 pub shown-step : (program : ProgramView) (choice : Choice) (s : State)

@@ -1,5 +1,5 @@
 -- What an instruction and a step do, by their effects.
-use Rattle.std.specs.Prelude.{◌≡◌, ℕ, List, ◌∷◌, Bool, None}
+use Rattle.std.specs.Prelude.{◌≡◌, ℕ, List, ◌∷◌, Bool}
 use Rattle.sour_syntax.specs.declared.instruction.Instr.{Instr}
 use Rattle.sour_syntax.specs.Program.{ProgramView}
 use Rattle.sour_semantics.specs.State.{Frame, State}
@@ -11,9 +11,9 @@ use Rattle.laws_effects.specs.Onward.{IsEffectOf}
 abbrev pub ActsByEffect : Type 0
 ActsByEffect = (program : ProgramView) (choice : Choice) (frame : Frame) (frames : List Frame) (instr : Instr)
     (next : List ℕ) (s : State)
-    → act program choice frame instr next (record s { frames = frame ∷ frames; ending = None })
+    → act program choice frame instr next (record s { frames = frame ∷ frames })
     ≡ applied program choice.entry (effect program choice.leaves frame (world_of s) instr next)
-    (record s { frames = frame ∷ frames; ending = None })
+    (record s { frames = frame ∷ frames })
 
 -- so is a step
 abbrev pub StepsByEffect : Type 0

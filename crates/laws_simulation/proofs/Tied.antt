@@ -203,7 +203,7 @@ pub step-line : (program : ProgramView) (choice : Choice) (frame : Frame) (frame
     (effect program choice.leaves frame (world_of s) line.instr (first_label rest)) (going (frame ∷ frames) s)
 step-line program choice frame frames line rest s stands =
     ap (λ left. act_first program choice frame left (going (frame ∷ frames) s)) stands
-    ∙ acts_by_effect program choice frame frames line.instr (first_label rest) s
+    ∙ acts_by_effect program choice frame frames line.instr (first_label rest) (record s { ending = None })
 
 -- if the lines of two tied frames agree, the step of one is followed by a step of the other
 pub lines-follow : (program : ProgramView) (Ties : Frame → Frame → Type 0) → IsTie program Ties
