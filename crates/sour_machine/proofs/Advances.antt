@@ -6,7 +6,7 @@ use Rattle.std.proofs.lemmas.Bool.{false≢true}
 use Rattle.std.proofs.lemmas.List.Elements.{All-from_recursion, All-contains}
 use Rattle.std.proofs.lemmas.Option.{slice_get-get_or, slice_get_within}
 use Rattle.sour_syntax.specs.declared.instruction.Instr.{Instr}
-use Rattle.sour_syntax.specs.declared.instruction.Instr.TheVariants.{Var, Drop, Assign, ArrayLength, ArrayList, Store, Print, Read, Branch, Goto, Call, Return, Stop, Assume}
+use Rattle.sour_syntax.specs.declared.instruction.Instr.TheVariants.{Branch, Goto, Return, Stop}
 use Rattle.sour_syntax.specs.declared.instruction.Line.{Line}
 use Rattle.sour_syntax.specs.declared.jump.Jump.{Jump}
 use Rattle.sour_syntax.specs.declared.literal.Literal.{Literal}
@@ -216,7 +216,8 @@ pub turn-none : (program : ProgramView) (input : List Literal) (moment : Moment)
 turn-none program input moment line at inside takes =
     let none : (step program text_choice (state_at program input moment)).turns ≡ moment.turns =
     ap (λ (s : State). s.turns) (step-state_at program input moment line at)
-    ∙ turns_inside line.instr inside program text_choice (frame_at program moment.frame None) (label_at (frame_lines program moment.frame) (moment.frame.place + 1)) (state_at program input moment) in
+    ∙ turns_inside line.instr inside program text_choice (frame_at program moment.frame None)
+    (reverse (map (waiting_at program) moment.below)) (label_at (frame_lines program moment.frame) (moment.frame.place + 1)) (state_at program input moment) in
     omega (arith, takes, none)
 
 -- the run at a line that wanted memory
@@ -256,9 +257,11 @@ IsAtTurns-line program input moment budget line at takes used =
 turns_behind-more : (program : ProgramView) (input : List Literal) (moment : Moment) (line : Line) → IsAt program moment line
     → IsTrue (jumps_away line.instr) ⊎ IsCallOrReturn line.instr ⊎ LeadsOut line.instr moment.frame.env moment.heap → turns_behind program input moment line ≡ moment.turns + 1
 turns_behind-more program input moment line at (inl jumps) =
-    turns_jumping line.instr jumps program text_choice (frame_at program moment.frame None) (label_at (frame_lines program moment.frame) (moment.frame.place + 1)) (state_at program input moment)
+    turns_jumping line.instr jumps program text_choice (frame_at program moment.frame None)
+    (reverse (map (waiting_at program) moment.below)) (label_at (frame_lines program moment.frame) (moment.frame.place + 1)) (state_at program input moment)
 turns_behind-more program input moment line at (inr crosses) =
-    turns-crosses program (frame_at program moment.frame None) line.instr
+    turns-crosses program (frame_at program moment.frame None)
+    (reverse (map (waiting_at program) moment.below)) line.instr
     (label_at (frame_lines program moment.frame) (moment.frame.place + 1)) (state_at program input moment)
     (no_anchor-at program moment line at) crosses
 
@@ -277,20 +280,11 @@ turns-grow false old new after = omega (arith, after)
 
 -- a run goes on from an instruction that goes to no label to the next line
 next_line : (instr : Instr) (jump : Jump) (next place : ℕ) → jumps_away instr ≡ false → Contains (following instr jump next) place → place ≡ next
-next_line (Var x e) jump next place stays at = Contains-one next place at
-next_line (Drop x) jump next place stays at = Contains-one next place at
-next_line (Assign x e) jump next place stays at = Contains-one next place at
-next_line (ArrayLength x e) jump next place stays at = Contains-one next place at
-next_line (ArrayList x es) jump next place stays at = Contains-one next place at
-next_line (Store x index e) jump next place stays at = Contains-one next place at
-next_line (Print e) jump next place stays at = Contains-one next place at
-next_line (Read x) jump next place stays at = Contains-one next place at
 next_line (Branch e a b) jump next place stays at = absurd (false≢true (sym stays))
 next_line (Goto a) jump next place stays at = absurd (false≢true (sym stays))
-next_line (Call x callee es) jump next place stays at = Contains-one next place at
 next_line (Return e) jump next place stays at = absurd (omega (arith, at.1))
 next_line Stop jump next place stays at = absurd (omega (arith, at.1))
-next_line (Assume es exit) jump next place stays at = Contains-one next place at
+next_line instr jump next place stays at = Contains-one next place at
 
 -- less is before a run where it took a turn, and where it took none and went on to the next line
 before-moved : (budget lines : ℕ) (old new : Moment) (jumped : Bool) → old.end ≡ Cut → old.frame.place < lines → new.turns ≡ turns_after jumped old.turns → new.turns ≤ budget

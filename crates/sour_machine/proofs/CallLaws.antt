@@ -1,12 +1,12 @@
 -- What a call, a return or an exit leaves of a run.
-use Rattle.std.proofs.Common.{◌≡◌, ◌⊎◌, ℕ, ◌+◌, ◌<◌, ◌≤◌, List, [], ◌∷◌, true, false, None, Some, get_or, Contains, refl, sym, ap, ◌∙◌, subst, arith}
+use Rattle.std.proofs.Common.{◌≡◌, ◌⊎◌, ℕ, ◌+◌, ◌<◌, ◌≤◌, List, [], ◌∷◌, true, false, None, Some, get_or, Contains, refl, sym, ap, ◌∙◌, subst, arith, map, reverse}
 use Rattle.std.specs.Prelude.{is_none}
 use Rattle.std.specs.List.{AllByRecursion}
 use Rattle.std.proofs.lemmas.Option.{same_Some}
 use Rattle.sour_syntax.specs.declared.expression.Expr.{Expr}
 use Rattle.sour_syntax.specs.declared.expression.Simple.{Simple}
 use Rattle.sour_syntax.specs.declared.instruction.Instr.{Instr}
-use Rattle.sour_syntax.specs.declared.instruction.Instr.TheVariants.{Var, Drop, Assign, ArrayLength, ArrayList, Store, Print, Read, Branch, Goto, Call, Return, Stop, Assume}
+use Rattle.sour_syntax.specs.declared.instruction.Instr.TheVariants.{Call, Return, Assume}
 use Rattle.sour_syntax.specs.declared.instruction.Line.{Line}
 use Rattle.sour_syntax.specs.declared.literal.Literal.{Literal}
 use Rattle.sour_syntax.specs.declared.literal.VarId.{VarId}
@@ -25,7 +25,7 @@ use Rattle.sour_machine.specs.declared.moment.Moment.{Moment}
 use Rattle.sour_machine.specs.declared.report.End.{End}
 use Rattle.sour_machine.specs.declared.report.End.TheVariants.{Returned, Stopped, Trapped, Cut, Memory}
 use Rattle.sour_machine.specs.End.{ending_of}
-use Rattle.sour_machine.specs.Frame.{code_of, frame_lines, frame_at, StandsAtLine, StandsWaiting}
+use Rattle.sour_machine.specs.Frame.{code_of, frame_lines, frame_at, waiting_at, StandsAtLine, StandsWaiting}
 use Rattle.sour_semantics.specs.Shape.{IsCallOrReturn}
 use Rattle.sour_machine.specs.Instruction.{IsReady, ActsAs, LeadsOut, EntersOr, CrossesTo, StandsCrossing}
 use Rattle.sour_machine.specs.Moment.{state_at, run_at, Stands}
@@ -101,16 +101,6 @@ crossed_by : (program : ProgramView) (input : List Literal) (old new : Moment) (
     → line.instr ≡ instr
     → IsAt program old line → CrossesTo program instr old new → AllByRecursion (StandsWaiting program) old.below
     → Crossed program input old new
-crossed_by program input old new line (Var x e) is at crosses all = absurd crosses
-crossed_by program input old new line (Drop x) is at crosses all = absurd crosses
-crossed_by program input old new line (Assign x e) is at crosses all = absurd crosses
-crossed_by program input old new line (ArrayLength x e) is at crosses all = absurd crosses
-crossed_by program input old new line (ArrayList x es) is at crosses all = absurd crosses
-crossed_by program input old new line (Store x index e) is at crosses all = absurd crosses
-crossed_by program input old new line (Print e) is at crosses all = absurd crosses
-crossed_by program input old new line (Read x) is at crosses all = absurd crosses
-crossed_by program input old new line (Branch e a b) is at crosses all = absurd crosses
-crossed_by program input old new line (Goto a) is at crosses all = absurd crosses
 crossed_by program input old new line (Call x callee es) is at crosses all =
     crossed_call program input old new x new.end refl at.going
     (top_calls-line program input old line at ∙ ap is_call is) crosses all
@@ -121,13 +111,13 @@ crossed_by program input old new line (Return e) is at crosses all = record {
   calls = omega (arith, crosses.calls);
   counted = others-counted program input old new line at (ap is_call is) crosses.calls;
 }
-crossed_by program input old new line Stop is at crosses all = absurd crosses
 crossed_by program input old new line (Assume es exit) is at crosses all = record {
   at_line = crosses.top;
   below = crosses.below all;
   calls = omega (arith, crosses.calls);
   counted = others-counted program input old new line at (ap is_call is) crosses.calls;
 }
+crossed_by program input old new line instr is at crosses all = absurd crosses
 
 -- so it does if what holds of a run at each moment held before it
 pub Crossed-line : (program : ProgramView) (input : List Literal) (old new : Moment) (line : Line)
@@ -177,6 +167,6 @@ pub turns-crossing : (program : ProgramView) (input : List Literal) (old new : M
     → ActsAs program input line.instr old new → new.turns ≡ old.turns + 1
 turns-crossing program input old new line at crosses acts =
     ap (λ (s : State). s.turns) acts
-    ∙ turns-crosses program (frame_at program old.frame None) line.instr
+    ∙ turns-crosses program (frame_at program old.frame None) (reverse (map (waiting_at program) old.below)) line.instr
     (label_at (frame_lines program old.frame) (old.frame.place + 1)) (state_at program input old)
     (no_anchor-at program old line at) crosses

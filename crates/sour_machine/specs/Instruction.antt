@@ -2,7 +2,7 @@
 use Rattle.std.specs.Prelude.{◌≡◌, ◌⊎◌, ℕ, ◌+◌, ◌<◌, ◌≤◌, List, [], ◌∷◌, ◌++◌, Bool, true, false, None, Some, Ok, length, get_or, Contains, slice_get, slice_set}
 use Rattle.std.specs.List.{AllByRecursion}
 use Rattle.sour_syntax.specs.declared.instruction.Instr.{Instr}
-use Rattle.sour_syntax.specs.declared.instruction.Instr.TheVariants.{Var, Drop, Assign, ArrayLength, ArrayList, Store, Print, Read, Branch, Goto, Call, Return, Stop, Assume}
+use Rattle.sour_syntax.specs.declared.instruction.Instr.TheVariants.{Branch, Goto, Call, Return, Assume}
 use Rattle.sour_syntax.specs.declared.instruction.Line.{Line}
 use Rattle.sour_syntax.specs.declared.jump.Jump.{Jump}
 use Rattle.sour_syntax.specs.declared.literal.Literal.{Literal}
@@ -98,37 +98,15 @@ pub record LeavesBy (program : ProgramView) (old new : Moment) : Type 0 where
 
 -- it is an assume whose predicates lead to its exit
 abbrev pub LeadsOut : Instr → Environment → Heap → Type 0
-LeadsOut (Var x e) environment heap = ⊥
-LeadsOut (Drop x) environment heap = ⊥
-LeadsOut (Assign x e) environment heap = ⊥
-LeadsOut (ArrayLength x e) environment heap = ⊥
-LeadsOut (ArrayList x es) environment heap = ⊥
-LeadsOut (Store x index e) environment heap = ⊥
-LeadsOut (Print e) environment heap = ⊥
-LeadsOut (Read x) environment heap = ⊥
-LeadsOut (Branch e a b) environment heap = ⊥
-LeadsOut (Goto a) environment heap = ⊥
-LeadsOut (Call x callee es) environment heap = ⊥
-LeadsOut (Return e) environment heap = ⊥
-LeadsOut Stop environment heap = ⊥
 LeadsOut (Assume es exit) environment heap = holds_each environment heap es ≡ Ok false
+LeadsOut instr environment heap = ⊥
 
 -- what an instruction that enters a frame or leaves one did to the frames
 abbrev pub CrossesTo : ProgramView → Instr → Moment → Moment → Type 0
-CrossesTo program (Var x e) old new = ⊥
-CrossesTo program (Drop x) old new = ⊥
-CrossesTo program (Assign x e) old new = ⊥
-CrossesTo program (ArrayLength x e) old new = ⊥
-CrossesTo program (ArrayList x es) old new = ⊥
-CrossesTo program (Store x index e) old new = ⊥
-CrossesTo program (Print e) old new = ⊥
-CrossesTo program (Read x) old new = ⊥
-CrossesTo program (Branch e a b) old new = ⊥
-CrossesTo program (Goto a) old new = ⊥
 CrossesTo program (Call x callee es) old new = EntersOr program x old new new.end
 CrossesTo program (Return e) old new = Leaves program old new
-CrossesTo program Stop old new = ⊥
 CrossesTo program (Assume es exit) old new = LeavesBy program old new
+CrossesTo program instr old new = ⊥
 
 -- the run goes on at a line that enters a frame or leaves one, and has turns left for it
 pub record StandsCrossing (program : ProgramView) (budget : ℕ) (moment : Moment) : Type 0 where
@@ -144,20 +122,9 @@ jump_at jumps place = get_or jumps place (record { first = 0; second = 0 })
 
 -- the instruction goes to a label that it names
 abbrev pub jumps_away : Instr → Bool
-jumps_away (Var x e) = false
-jumps_away (Drop x) = false
-jumps_away (Assign x e) = false
-jumps_away (ArrayLength x e) = false
-jumps_away (ArrayList x es) = false
-jumps_away (Store x index e) = false
-jumps_away (Print e) = false
-jumps_away (Read x) = false
 jumps_away (Branch e a b) = true
 jumps_away (Goto a) = true
-jumps_away (Call x callee es) = false
-jumps_away (Return e) = false
-jumps_away Stop = false
-jumps_away (Assume es exit) = false
+jumps_away instr = false
 
 -- the turns behind an instruction that was carried out in its frame: one more where it goes to a label
 abbrev pub turns_after : Bool → ℕ → ℕ

@@ -1,6 +1,6 @@
 use Rattle.std.specs.Prelude.{◌≡◌, ◌⊎◌, ◌+◌, ℕ, zero, suc, List, ◌∷◌, Bool, true, false, None, ◌&&◌, [], is_none, IsSome, IsTrue, if◌then◌else◌}
 use Rattle.sour_syntax.specs.declared.instruction.Instr.{Instr}
-use Rattle.sour_syntax.specs.declared.instruction.Instr.TheVariants.{Var, Drop, Assign, ArrayLength, ArrayList, Store, Print, Read, Branch, Goto, Call, Return, Stop, Assume}
+use Rattle.sour_syntax.specs.declared.instruction.Instr.TheVariants.{Call}
 use Rattle.sour_syntax.specs.declared.instruction.Line.{Line}
 use Rattle.sour_syntax.specs.declared.literal.Literal.{Literal}
 use Rattle.sour_syntax.specs.Labels.{from_label}
@@ -25,20 +25,8 @@ pub record RunView : Type 0 where
 
 -- the instruction calls a function
 abbrev pub is_call : Instr → Bool
-is_call (Var x e) = false
-is_call (Drop x) = false
-is_call (Assign x e) = false
-is_call (ArrayLength x e) = false
-is_call (ArrayList x es) = false
-is_call (Store x index e) = false
-is_call (Print e) = false
-is_call (Read x) = false
-is_call (Branch e a b) = false
-is_call (Goto a) = false
 is_call (Call x callee es) = true
-is_call (Return e) = false
-is_call Stop = false
-is_call (Assume es exit) = false
+is_call instr = false
 
 -- the first of the lines that are left calls a function
 abbrev pub first_calls : List Line → Bool

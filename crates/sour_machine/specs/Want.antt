@@ -1,7 +1,7 @@
 -- Where a run may want memory.
 use Rattle.std.specs.Prelude.{◌≡◌, ◌⊎◌, ◌<◌, ℕ, List, ◌∷◌, None, IsTrue}
 use Rattle.sour_syntax.specs.declared.instruction.Instr.{Instr}
-use Rattle.sour_syntax.specs.declared.instruction.Instr.TheVariants.{Var, Drop, Assign, ArrayLength, ArrayList, Store, Print, Read, Branch, Goto, Call, Return, Stop, Assume}
+use Rattle.sour_syntax.specs.declared.instruction.Instr.TheVariants.{ArrayLength, ArrayList, Print}
 use Rattle.sour_syntax.specs.declared.instruction.Line.{Line}
 use Rattle.sour_syntax.specs.Labels.{from_label}
 use Rattle.sour_semantics.specs.State.{Environment, Heap, Frame}
@@ -12,20 +12,10 @@ use Rattle.sour_machine.specs.Run.{RunView, is_call}
 
 -- the instruction takes memory in its frame: it writes, or makes an array
 abbrev pub TakesMemoryInside : Instr → Type 0
-TakesMemoryInside (Var x e) = ⊥
-TakesMemoryInside (Drop x) = ⊥
-TakesMemoryInside (Assign x e) = ⊥
 TakesMemoryInside (ArrayLength x e) = Unit {0}
 TakesMemoryInside (ArrayList x es) = Unit {0}
-TakesMemoryInside (Store x index e) = ⊥
 TakesMemoryInside (Print e) = Unit {0}
-TakesMemoryInside (Read x) = ⊥
-TakesMemoryInside (Branch e a b) = ⊥
-TakesMemoryInside (Goto a) = ⊥
-TakesMemoryInside (Call x callee es) = ⊥
-TakesMemoryInside (Return e) = ⊥
-TakesMemoryInside Stop = ⊥
-TakesMemoryInside (Assume es exit) = ⊥
+TakesMemoryInside instr = ⊥
 
 -- the instruction takes memory: it does so in its frame, or calls, or is an assume whose predicates lead to its exit
 abbrev pub TakesMemory : Instr → Environment → Heap → Type 0
