@@ -86,7 +86,8 @@ HasTop-landed : (program : ProgramView) (frame : Frame) (heap : Heap) (exit : Ex
     → IfOk (landed_frames program frame heap (continuations exit)) HasTop
 HasTop-landed program frame heap exit =
     HasTop-first
-    (landed program frame.code (top_continuation exit) (eval_each frame.environment heap (bound_values (top_continuation exit).binds)))
+    (landed program frame.code (top_continuation exit)
+    (eval_each frame.environment heap (bound_values (top_continuation exit).binds)))
     (landed_frames program frame heap (map extra_continuation exit.extras))
 
 -- frames that have a top have one above others
@@ -102,9 +103,11 @@ own-ending (trapped trap) own = λ none. none
 own-ending stuck own = λ none. none
 
 -- a deed of an instruction
-IsAbove-done : (program : ProgramView) (entry : Entry) (low : List Frame) (frame : Frame) (frames : List Frame) (instr : Instr)
+IsAbove-done : (program : ProgramView) (entry : Entry) (low : List Frame) (frame : Frame) (frames : List Frame)
+    (instr : Instr)
     (next : List ℕ) (deed : Deed) (s : State) → IsDeedOf program frame s.heap instr next deed
-    → IsAbove low (done program entry deed (going (frame ∷ frames) s)) (done program entry deed (above low (going (frame ∷ frames) s)))
+    → IsAbove low (done program entry deed (going (frame ∷ frames) s))
+    (done program entry deed (above low (going (frame ∷ frames) s)))
 IsAbove-done program entry low frame frames instr next (goes label environment world) s is =
     inl (record { same = refl; top = tt; going = λ none. none })
 IsAbove-done program entry low frame frames instr next (asks x f values label) s is =
@@ -121,10 +124,13 @@ IsAbove-done program entry low frame frames instr next (finishes ending) s is =
     inl (record { same = refl; top = tt; going = own-ending ending is })
 
 -- the first of the lines that are left
-IsAbove-first : (program : ProgramView) (choice : Choice) (low : List Frame) (frame : Frame) (frames : List Frame) (lines : List Line) (s : State)
+IsAbove-first : (program : ProgramView) (choice : Choice) (low : List Frame) (frame : Frame) (frames : List Frame)
+    (lines : List Line) (s : State)
     → IsAbove low
-    (applied program choice.entry (effect_first program choice.leaves frame (world_of s) lines) (going (frame ∷ frames) s))
-    (applied program choice.entry (effect_first program choice.leaves frame (world_of s) lines) (above low (going (frame ∷ frames) s)))
+    (applied program choice.entry (effect_first program choice.leaves frame (world_of s) lines)
+    (going (frame ∷ frames) s))
+    (applied program choice.entry (effect_first program choice.leaves frame (world_of s) lines)
+    (above low (going (frame ∷ frames) s)))
 IsAbove-first program choice low frame frames [] s = inl (record { same = refl; top = tt; going = λ none. none })
 IsAbove-first program choice low frame frames (line ∷ lines) s =
     let e : Effect = effect program choice.leaves frame (world_of s) line.instr (first_label lines) in
@@ -136,7 +142,8 @@ IsAbove-first program choice low frame frames (line ∷ lines) s =
 IsAbove-parts : (program : ProgramView) (choice : Choice) (low : List Frame) (ending : Option Ending) (frames : List Frame) (s : State)
     → HasTop frames → ¬ IsReturned ending
     → IsAbove low
-    (applied program choice.entry (effect_unless program choice.leaves (world_of s) frames ending) (record s { frames = frames; ending = ending }))
+    (applied program choice.entry (effect_unless program choice.leaves (world_of s) frames ending)
+    (record s { frames = frames; ending = ending }))
     (applied program choice.entry (effect_unless program choice.leaves (world_of s) (frames ++ low) ending)
     (above low (record s { frames = frames; ending = ending })))
 IsAbove-parts program choice low None [] s top not_ended = absurd top

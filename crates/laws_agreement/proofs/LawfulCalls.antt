@@ -148,9 +148,11 @@ abbrev entering : BundleView → Bool → Choice
 entering view leaves = record { entry = bundle view; leaves = leaves }
 
 -- a deed: only a call differs
-MayDiffer-done : (program : ProgramView) (view : BundleView) (frame : Frame) (frames : List Frame) (deed : Deed) (s : State)
+MayDiffer-done : (program : ProgramView) (view : BundleView) (frame : Frame) (frames : List Frame) (deed : Deed)
+    (s : State)
     → HasShape program view
-    → MayDiffer program view (done program text_version deed (going (frame ∷ frames) s)) (done program (bundle view) deed (going (frame ∷ frames) s))
+    → MayDiffer program view (done program text_version deed (going (frame ∷ frames) s))
+    (done program (bundle view) deed (going (frame ∷ frames) s))
 MayDiffer-done program view frame frames (goes label environment world) s shape = inl refl
 MayDiffer-done program view frame frames (asks x f values next) s shape =
     MayDiffer-calls program view x f values next frame frames s shape
@@ -161,8 +163,10 @@ MayDiffer-done program view frame frames (finishes ending) s shape = inl refl
 -- an effect of a run, by its frames and its end
 MayDiffer-parts : (program : ProgramView) (view : BundleView) (leaves : Bool) (ending : Option Ending) (frames : List Frame) (s : State) → HasShape program view
     → MayDiffer program view
-    (applied program text_version (effect_unless program leaves (world_of s) frames ending) (record s { frames = frames; ending = ending }))
-    (applied program (bundle view) (effect_unless program leaves (world_of s) frames ending) (record s { frames = frames; ending = ending }))
+    (applied program text_version (effect_unless program leaves (world_of s) frames ending)
+    (record s { frames = frames; ending = ending }))
+    (applied program (bundle view) (effect_unless program leaves (world_of s) frames ending)
+    (record s { frames = frames; ending = ending }))
 MayDiffer-parts program view leaves None [] s shape = inl refl
 MayDiffer-parts program view leaves None (frame ∷ frames) s shape =
     let e : Effect = effect_unless program leaves (world_of s) (frame ∷ frames) None in
@@ -174,7 +178,8 @@ MayDiffer-step : (program : ProgramView) (view : BundleView) (leaves : Bool) (s 
     → MayDiffer program view (step program (free_choice leaves) s) (step program (entering view leaves) s)
 MayDiffer-step program view leaves s shape =
     let Free : State → Type 0 = λ t. MayDiffer program view t (step program (entering view leaves) s) in
-    let Entered : State → Type 0 = MayDiffer program view (applied program text_version (effect_next program leaves s) s) in
+    let Entered : State → Type 0 = MayDiffer program view
+    (applied program text_version (effect_next program leaves s) s) in
     subst Free (sym (steps_by_effect program (free_choice leaves) s))
     (subst Entered (sym (steps_by_effect program (entering view leaves) s))
     (MayDiffer-parts program view leaves s.ending s.frames s shape))
@@ -224,7 +229,8 @@ pub call_agrees : CallAgrees
 call_agrees program view leaves s t checked valid lawful agrees =
     let free : State = step program (free_choice leaves) s in
     let next : Agree program free t = λ choices. agrees (leaves ∷ choices) in
-    entered-agrees program view free (step program (entering view leaves) s) t (MayDiffer-step program view leaves s lawful.shape)
+    entered-agrees program view free (step program (entering view leaves) s) t
+    (MayDiffer-step program view leaves s lawful.shape)
     (IsValid-step program (free_choice leaves) s checked valid tt) lawful next
 
 -- a step with a choice that is lawful

@@ -191,7 +191,8 @@ untold true anchor is = sym is
 untold false anchor is = refl
 
 -- an assume does the same in both frames
-assume-textual : (program : ProgramView) (f : FunId) (frame : Frame) (exit : Exit) (next : List ℕ) (world : World) (r : Result Bool Trap)
+assume-textual : (program : ProgramView) (f : FunId) (frame : Frame) (exit : Exit) (next : List ℕ) (world : World)
+    (r : Result Bool Trap)
     → AllByRecursion (λ continuation. IsTextTarget continuation.target.code) (continuations exit)
     → does_try program (textual_frame f frame) exit next world false r ≡ does_try program frame exit next world false r
 assume-textual program f frame exit next world (Err trap) are = refl
@@ -202,8 +203,10 @@ assume-textual program f frame exit next world (Ok false) are =
     ap leaving (landed_frames-text program f frame world.heap (continuations exit) are)
 
 -- so does an instruction of a text
-effect-textual : (program : ProgramView) (leaves : Bool) (f : FunId) (frame : Frame) (world : World) (instr : Instr) (next : List ℕ)
-    → is_anchor frame.label ≡ false → AllByRecursion (λ continuation. IsTextTarget continuation.target.code) (continuations_of instr)
+effect-textual : (program : ProgramView) (leaves : Bool) (f : FunId) (frame : Frame) (world : World) (instr : Instr)
+    (next : List ℕ)
+    → is_anchor frame.label ≡ false → AllByRecursion (λ continuation. IsTextTarget continuation.target.code)
+    (continuations_of instr)
     → effect program false (textual_frame f frame) world instr next ≡ effect program leaves frame world instr next
 effect-textual program leaves f frame world (Assume es exit) next named are =
     let held : Result Bool Trap = holds_each frame.environment world.heap es in
@@ -212,11 +215,13 @@ effect-textual program leaves f frame world (Assume es exit) next named are =
 effect-textual program leaves f frame world instr next named are = refl
 
 -- a deed of an instruction of a text
-Follows-done : (program : ProgramView) (f : FunId) (body : BodyView) (frame : Frame) (frames : List Frame) (instr : Instr)
+Follows-done : (program : ProgramView) (f : FunId) (body : BodyView) (frame : Frame) (frames : List Frame)
+    (instr : Instr)
     (next : List ℕ) (deed : Deed) (s : State) → AreHere body (frame ∷ frames)
     → AllByRecursion (λ continuation. IsTextTarget continuation.target.code) (continuations_of instr)
     → IsDeedOf program frame s.heap instr next deed
-    → Follows f body (done program text_version deed (going (frame ∷ frames) s)) (done program text_version deed (textual f (going (frame ∷ frames) s)))
+    → Follows f body (done program text_version deed (going (frame ∷ frames) s))
+    (done program text_version deed (textual f (going (frame ∷ frames) s)))
 Follows-done program f body frame frames instr next (goes label environment world) s here are is =
     record { same = refl; here = here }
 Follows-done program f body frame frames instr next (asks x g values label) s here are is =
@@ -224,28 +229,39 @@ Follows-done program f body frame frames instr next (asks x g values label) s he
 Follows-done program f body frame frames instr next (gives value) s here are is =
     Follows-returns f body value frame frames s here
 Follows-done program f body frame frames instr next (lands tops) s here are is =
-    let Targets : Instr → Type 0 = λ i. AllByRecursion (λ continuation. IsTextTarget continuation.target.code) (continuations_of i) in
+    let Targets : Instr → Type 0 = λ i. AllByRecursion (λ continuation. IsTextTarget continuation.target.code)
+    (continuations_of i) in
     let targets : Targets (Assume is.0 is.1) = subst Targets is.2 are in
-    let texts : AreText tops = IfOk-at_ok AreText is.3 (IfOk-landed_frames program frame s.heap (continuations is.1) targets) in
-    record { same = ap (λ all. going all s) (map-text f tops frames texts); here = AreHere-text body tops frames texts here.1 }
-Follows-done program f body frame frames instr next (finishes ending) s here are is = record { same = refl; here = here }
+    let texts : AreText tops = IfOk-at_ok AreText is.3
+    (IfOk-landed_frames program frame s.heap (continuations is.1) targets) in
+    record {
+      same = ap (λ all. going all s) (map-text f tops frames texts);
+      here = AreHere-text body tops frames texts
+          here.1;
+    }
+Follows-done program f body frame frames instr next (finishes ending) s here are is = record
+    { same = refl; here = here }
 
 -- the first of the lines from the top frame's label on
-Follows-first : (program : ProgramView) (leaves : Bool) (f : FunId) (body : BodyView) (frame : Frame) (frames : List Frame) (all lines : List Line) (s : State)
+Follows-first : (program : ProgramView) (leaves : Bool) (f : FunId) (body : BodyView) (frame : Frame)
+    (frames : List Frame) (all lines : List Line) (s : State)
     → AreHere body (frame ∷ frames) → AllByRecursion IsTextLine all → from_label frame.label all ≡ lines
     → Follows f body
     (applied program text_version (effect_first program leaves frame (world_of s) lines) (going (frame ∷ frames) s))
-    (applied program text_version (effect_first program false (textual_frame f frame) (world_of s) lines) (textual f (going (frame ∷ frames) s)))
+    (applied program text_version (effect_first program false (textual_frame f frame) (world_of s) lines)
+    (textual f (going (frame ∷ frames) s)))
 Follows-first program leaves f body frame frames all [] s here are stands = record { same = refl; here = here }
 Follows-first program leaves f body frame frames all (line ∷ lines) s here are stands =
     let is : IsTextLine line = All-from_label IsTextLine frame.label all line lines are stands in
     let named : is_anchor frame.label ≡ false =
-    ap is_anchor (sym (label-from_label frame.label all line lines stands)) ∙ word-no_anchor line.label is.label.begins in
+    ap is_anchor (sym (label-from_label frame.label all line lines stands)) ∙ word-no_anchor line.label
+    is.label.begins in
     let e : Effect = effect program leaves frame (world_of s) line.instr (first_label lines) in
     Follows-moved f body _ _ _
     (ap (λ one. applied program text_version one (textual f (going (frame ∷ frames) s)))
     (effect-textual program leaves f frame (world_of s) line.instr (first_label lines) named is.exits))
-    (Follows-done program f body frame frames line.instr (first_label lines) e.deed (record s { turns = counted e.turn s.turns }) here is.exits
+    (Follows-done program f body frame frames line.instr (first_label lines) e.deed
+    (record s { turns = counted e.turn s.turns }) here is.exits
     (effect-is program frame (first_label lines) (world_of s) leaves line.instr).does)
 
 -- the lines of a body that is found, if it is
@@ -282,21 +298,25 @@ lines_of-textual program f body (made bodies number) first here =
 Follows-parts : (program : ProgramView) (leaves : Bool) (f : FunId) (body : BodyView) (ending : Option Ending) (frames : List Frame) (s : State)
     → HasFirst program f body → AreHere body frames
     → Follows f body
-    (applied program text_version (effect_unless program leaves (world_of s) frames ending) (record s { frames = frames; ending = ending }))
+    (applied program text_version (effect_unless program leaves (world_of s) frames ending)
+    (record s { frames = frames; ending = ending }))
     (applied program text_version (effect_unless program false (world_of s) (map (textual_frame f) frames) ending)
     (textual f (record s { frames = frames; ending = ending })))
 Follows-parts program leaves f body None [] s first here = record { same = refl; here = tt }
 Follows-parts program leaves f body None (frame ∷ frames) s first here =
     Follows-moved f body _ _ _
     (ap (λ lines. applied program text_version
-    (effect_first program false (textual_frame f frame) (world_of s) (from_label frame.label lines)) (textual f (going (frame ∷ frames) s)))
+    (effect_first program false (textual_frame f frame) (world_of s) (from_label frame.label lines))
+    (textual f (going (frame ∷ frames) s)))
     (lines_of-textual program f body frame.code first here.0))
-    (Follows-first program leaves f body frame frames (lines_of program frame.code) (from_label frame.label (lines_of program frame.code)) s here
+    (Follows-first program leaves f body frame frames (lines_of program frame.code)
+    (from_label frame.label (lines_of program frame.code)) s here
     (are-lines-here program f body frame.code first here.0) refl)
 Follows-parts program leaves f body (Some ending) frames s first here = record { same = refl; here = here }
 
 -- a step
-Follows-step : (program : ProgramView) (leaves : Bool) (f : FunId) (body : BodyView) (s : State) → HasFirst program f body → AreHere body s.frames
+Follows-step : (program : ProgramView) (leaves : Bool) (f : FunId) (body : BodyView) (s : State) → HasFirst program f
+    body → AreHere body s.frames
     → Follows f body (step program (free_choice leaves) s) (step program text_choice (textual f s))
 Follows-step program leaves f body s first here =
     let One : State → Type 0 = λ t. Follows f body t (step program text_choice (textual f s)) in
@@ -310,7 +330,8 @@ Follows-run : (program : ProgramView) (choices : List Bool) (f : FunId) (body : 
 Follows-run program [] f body s first here = record { same = refl; here = here }
 Follows-run program (leaves ∷ more) f body s first here =
     let next : State = step program (free_choice leaves) s in
-    let one : Follows f body next (step program text_choice (textual f s)) = Follows-step program leaves f body s first here in
+    let one : Follows f body next (step program text_choice (textual f s)) = Follows-step program leaves f body s
+    first here in
     Follows-moved f body _ _ _ (ap (text_run program (length more)) one.same) (Follows-run program more f body next first one.here)
 
 -- what runs the one body and versions alone agrees with the same that runs versions alone

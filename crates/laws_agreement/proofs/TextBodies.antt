@@ -94,14 +94,19 @@ are-text functions (continuation ∷ others) named =
     (IsTextTarget-named functions continuation.target.code named.0.body named.0.found, are-text functions others named.1)
 
 -- the lines of a version
-are-lines : (functions : List Function) (lines : List Line) → AllByRecursion (λ line. IsUnqualifiedName line.label) lines
+are-lines : (functions : List Function) (lines : List Line) → AllByRecursion (λ line. IsUnqualifiedName line.label)
+    lines
     → AllByRecursion (λ line. AllByRecursion (IsNamed functions []) (continuations_of line.instr)) lines → AllByRecursion IsTextLine lines
 are-lines functions [] unqualified named = tt
-are-lines functions (line ∷ lines) unqualified named =
-    (record { label = unqualified.0; exits = are-text functions (continuations_of line.instr) named.0 }, are-lines functions lines unqualified.1 named.1)
+are-lines functions (line ∷ lines) unqualified named = (
+  record { label = unqualified.0; exits = are-text functions (continuations_of line.instr) named.0 },
+  are-lines
+      functions lines unqualified.1 named.1,
+)
 
 -- the lines of the body of a version
 pub text-lines : (functions : List Function) (number : ℕ) (body : BodyView) → IsVersionBody functions number body → AllByRecursion IsTextLine body.lines
 text-lines functions number body of =
     let Lines : BodyView → Type 0 = λ b. AllByRecursion IsTextLine b.lines in
-    subst Lines of.same (are-lines functions of.version.body.lines (unqualified_labels functions number of.parameters of.version of.is) of.is.exits.named)
+    subst Lines of.same (are-lines functions of.version.body.lines
+    (unqualified_labels functions number of.parameters of.version of.is) of.is.exits.named)

@@ -16,12 +16,17 @@ use Rattle.laws_agreement.proofs.TextBodies.{IsVersionBody, IsVersionBody-progra
 use Rattle.laws_agreement.proofs.TextAlone.{text_alone_agrees}
 
 -- lines with unqualified labels have labels that a made body may have
-are-made_labels : (lines : List Line) → AllByRecursion (λ line. IsUnqualifiedName line.label) lines → AllByRecursion HasMadeLabel lines
+are-made_labels : (lines : List Line) → AllByRecursion (λ line. IsUnqualifiedName line.label) lines → AllByRecursion
+    HasMadeLabel lines
 are-made_labels [] unqualified = tt
 are-made_labels (line ∷ lines) unqualified =
     let none : is_anchor line.label ≡ false = word-no_anchor line.label unqualified.0.begins in
     let no_anchor : IsTrue (is_anchor line.label) → IsAnchorInstr line.instr = λ anchor. absurd (cc) in (
-      record { begins = subst BeginsAsWord (sym (word-without_at line.label unqualified.0.begins)) unqualified.0.begins; anchor = no_anchor },
+      record {
+        begins = subst BeginsAsWord (sym (word-without_at line.label unqualified.0.begins))
+            unqualified.0.begins;
+        anchor = no_anchor;
+      },
       are-made_labels lines unqualified.1,
     )
 
@@ -30,16 +35,22 @@ labels-free : (label : List ℕ) (lines : List Line) → AllByRecursion (λ line
     → AllByRecursion (λ line. ¬ BeginsWith (label ++ 47 ∷ []) (without_at line.label)) lines
 labels-free label [] unqualified = tt
 labels-free label (line ∷ lines) unqualified =
-    let Free : List ℕ → Type 0 = λ name. ¬ BeginsWith (label ++ 47 ∷ []) name in
-    (subst Free (sym (word-without_at line.label unqualified.0.begins)) (whole-no_front line.label label unqualified.0.whole), labels-free label lines unqualified.1)
+    let Free : List ℕ → Type 0 = λ name. ¬ BeginsWith (label ++ 47 ∷ []) name in (
+      subst Free (sym (word-without_at line.label unqualified.0.begins))
+          (whole-no_front line.label label unqualified.0.whole),
+      labels-free label lines unqualified.1,
+    )
 
 -- nor does an unqualified name
-names-free : (label : List ℕ) (names : List (List ℕ)) → AllByRecursion IsUnqualifiedName names → AllByRecursion (λ name. ¬ BeginsWith (label ++ 47 ∷ []) name) names
+names-free : (label : List ℕ) (names : List (List ℕ)) → AllByRecursion IsUnqualifiedName names → AllByRecursion
+    (λ name. ¬ BeginsWith (label ++ 47 ∷ []) name) names
 names-free label [] unqualified = tt
-names-free label (name ∷ names) unqualified = (whole-no_front name label unqualified.0.whole, names-free label names unqualified.1)
+names-free label (name ∷ names) unqualified =
+    (whole-no_front name label unqualified.0.whole, names-free label names unqualified.1)
 
 -- so the body is free for each of its lines
-each-free : (body : BodyView) (lines : List Line) → AllByRecursion (λ line. IsUnqualifiedName line.label) body.lines → AllByRecursion IsUnqualifiedName body.variables
+each-free : (body : BodyView) (lines : List Line) → AllByRecursion (λ line. IsUnqualifiedName line.label) body.lines
+    → AllByRecursion IsUnqualifiedName body.variables
     → AllByRecursion (λ line. IsCallOrReturn line.instr → IsFreeFor body line.label) lines
 each-free body [] labels names = tt
 each-free body (line ∷ lines) labels names = (
@@ -55,7 +66,8 @@ HasShape-version : (program : ProgramView) (f : FunId) (parameters : List (List 
 HasShape-version program f parameters version is found scoped =
     let numbered : ℕ → FunId = λ n. record { 0 = n } in
     let own : version.body.function ≡ f = ap numbered is.numbered in
-    let labels : AllByRecursion (λ (line : Line). IsUnqualifiedName line.label) version.body.lines = unqualified_labels program.functions f.0 parameters version is in
+    let labels : AllByRecursion (λ (line : Line). IsUnqualifiedName line.label) version.body.lines =
+    unqualified_labels program.functions f.0 parameters version is in
     record {
       each = (
         record {
@@ -70,7 +82,8 @@ HasShape-version program f parameters version is found scoped =
           literals = is.literals;
           scoped = scoped;
           labels = are-made_labels version.body.lines labels;
-          free = each-free version.body version.body.lines labels (unqualified_variables program.functions f.0 parameters version is);
+          free = each-free version.body version.body.lines labels
+              (unqualified_variables program.functions f.0 parameters version is);
           exits = is.exits;
           lines = is.lines;
           few_variables = is.few_variables;

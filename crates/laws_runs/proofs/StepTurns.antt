@@ -19,7 +19,8 @@ Near-counted false s t turns = record { least = omega (arith, turns); most = ome
 -- a step takes one turn or none
 pub Near-step : (program : ProgramView) (choice : Choice) (s : State) → Near s (step program choice s)
 Near-step program choice s =
-    Near-counted (effect_next program choice.leaves s).turn s (step program choice s) (shown-step program choice s).turns
+    Near-counted (effect_next program choice.leaves s).turn s (step program choice s)
+    (shown-step program choice s).turns
 
 -- the same as two facts
 pub turns_of_step : (program : ProgramView) (choice : Choice) (s : State)

@@ -48,12 +48,16 @@ not-false false is = absurd (cc)
 
 -- a deed that takes no turn goes to the line behind it, leads to a lower body, or ends the run
 IsNearer-done : (program : ProgramView) (entry : Entry) (frame : Frame) (frames : List Frame) (instr : Instr)
-    (rest : List Line) (deed : Deed) (s : State) → ((IsTerminator instr → ⊥) → AreLeft program frame rest) → IsProgram program
-    → AllByRecursion (Leads program frame.code) (continuations_of instr) → (is_anchor frame.label ≡ true → 0 < depth frame.code)
+    (rest : List Line) (deed : Deed) (s : State) → ((IsTerminator instr → ⊥) → AreLeft program frame rest)
+    → IsProgram program
+    → AllByRecursion (Leads program frame.code) (continuations_of instr)
+    → (is_anchor frame.label ≡ true → 0 < depth frame.code)
     → IsDeedOf program frame s.heap instr (first_label rest) deed
     → IsTurnOf frame (world_of s) instr (first_label rest) false deed
-    → IsNearer program (depth frame.code * 4096 + suc (length rest)) s.turns (done program entry deed (going (frame ∷ frames) s))
-IsNearer-done program entry frame frames instr rest (goes label environment after) s behind checked leads made does takes =
+    → IsNearer program (depth frame.code * 4096 + suc (length rest)) s.turns
+    (done program entry deed (going (frame ∷ frames) s))
+IsNearer-done program entry frame frames instr rest (goes label environment after) s behind checked leads made does
+    takes =
     let next : (label ≡ first_label rest) × (IsTerminator instr → ⊥) = takes.0 refl in
     let here : length (from_label label (lines_of program frame.code)) ≡ length rest =
     ap (λ l. length (from_label l (lines_of program frame.code))) next.0 ∙ behind next.1 in
@@ -90,10 +94,12 @@ IsNearer-applied program entry frame frames instr rest false deed s behind check
     IsNearer-done program entry frame frames instr rest deed s behind checked leads made is.does is.takes
 
 -- the first of the lines that are left is carried out
-IsNearer-first : (program : ProgramView) (choice : Choice) (arrays : ℕ) (frame : Frame) (frames : List Frame) (lines : List Line) (s : State)
+IsNearer-first : (program : ProgramView) (choice : Choice) (arrays : ℕ) (frame : Frame) (frames : List Frame)
+    (lines : List Line) (s : State)
     → IsProgram program → IsValidFrame program arrays frame → from_label frame.label (lines_of program frame.code) ≡ lines
     → IsNearer program (depth frame.code * 4096 + length lines) s.turns
-    (applied program choice.entry (effect_first program choice.leaves frame (world_of s) lines) (going (frame ∷ frames) s))
+    (applied program choice.entry (effect_first program choice.leaves frame (world_of s) lines)
+    (going (frame ∷ frames) s))
 IsNearer-first program choice arrays frame frames [] s checked valid stands = λ going same. absurd (cc)
 IsNearer-first program choice arrays frame frames (line ∷ rest) s checked valid stands =
     let one : IsBodyOf program frame.code valid.body = IsBodyOf-code program frame.code valid.body checked valid.code valid.runs in
@@ -108,7 +114,8 @@ IsNearer-first program choice arrays frame frames (line ∷ rest) s checked vali
     (effect-is program frame (first_label rest) (world_of s) choice.leaves line.instr)
 
 -- a run takes a turn, ends, or has less left, by its frames and its end
-IsNearer-parts : (program : ProgramView) (choice : Choice) (arrays : ℕ) (frames : List Frame) (ending : Option Ending) (s : State)
+IsNearer-parts : (program : ProgramView) (choice : Choice) (arrays : ℕ) (frames : List Frame) (ending : Option Ending)
+    (s : State)
     → IsProgram program → AllByRecursion (IsValidFrame program arrays) frames
     → IsNearer program (left program frames) s.turns
     (applied program choice.entry (effect_unless program choice.leaves (world_of s) frames ending)
@@ -116,7 +123,8 @@ IsNearer-parts : (program : ProgramView) (choice : Choice) (arrays : ℕ) (frame
 IsNearer-parts program choice arrays frames (Some ending) s checked valid = λ going same. absurd (cc)
 IsNearer-parts program choice arrays [] None s checked valid = λ going same. absurd (cc)
 IsNearer-parts program choice arrays (frame ∷ frames) None s checked valid =
-    IsNearer-first program choice arrays frame frames (from_label frame.label (lines_of program frame.code)) s checked valid.0 refl
+    IsNearer-first program choice arrays frame frames (from_label frame.label (lines_of program frame.code)) s checked
+    valid.0 refl
 
 -- a step takes a turn, ends, or leaves less
 pub IsNearer-step : (program : ProgramView) (choice : Choice) (s : State) → IsProgram program → IsValid program s
