@@ -13,7 +13,7 @@ use Rattle.sour_raw.specs.Instructions.{begins_line}
 use Rattle.sour_raw.specs.Productions.{lines_at, version_at, versions_at, parameters_at, function_at, functions_at, job_at, whole_at}
 use Rattle.laws_grammar.proofs.Kit.{Exact, Any, exact_as, exact_image, out, begins_full}
 use Rattle.laws_grammar.proofs.Leaves.{exact_this, exact_both, exact_free, exact_after, exact_lined, exact_complete, IsNone, headed, Next, next_is}
-use Rattle.laws_grammar.proofs.Lists.{plain_law, exact_repeated, exact_one_or_more, exact_listed}
+use Rattle.laws_grammar.proofs.Lists.{unseparated_law, exact_repeated, exact_one_or_more, exact_listed}
 use Rattle.laws_grammar.proofs.Keys.{may_begin_items}
 use Rattle.laws_grammar.proofs.Names.{names_say, name_begins, exact_name}
 use Rattle.laws_grammar.proofs.Paths.{starts_with}
@@ -28,7 +28,7 @@ NoLine ts = next begins_line ts ≡ false
 exact_lines : (names : List (List ℕ)) → Exact (each line with_line (Some 4096) names) NoLine (lines_at names)
 unfolding lines_at
 exact_lines names =
-    exact_repeated (plain_law begins_line with_line exact_line lines_begin (λ rest f. (f, tt))
+    exact_repeated (unseparated_law begins_line with_line exact_line lines_begin (λ rest f. (f, tt))
     (λ names k l u rest s. tt)) (Some 4096) names
 
 -- the word with which a version begins
@@ -57,7 +57,7 @@ exact_versions : (xs : List (List ℕ))
 unfolding versions_at
 exact_versions xs =
     exact_one_or_more
-    (plain_law (is version_word) alone (λ names. exact_version xs)
+    (unseparated_law (is version_word) alone (λ names. exact_version xs)
     (λ names. starts_with version_word refl
     (λ k v u rest s. headed version_word (is version_word) true refl u rest s.0))
     (λ rest f. (next_is end_word (is version_word) false refl rest f, next_is end_word begins_line false refl rest f))
@@ -111,7 +111,7 @@ exact_functions : Exact (one_or_more (λ (names : List (List ℕ)). function) al
 unfolding functions_at
 exact_functions =
     exact_one_or_more
-    (plain_law (is function_word) alone (λ names. exact_function)
+    (unseparated_law (is function_word) alone (λ names. exact_function)
     (λ names. starts_with function_word refl
     (λ k f u rest s. headed function_word (is function_word) true refl u rest s.0))
     (λ rest f. (f, tt)) (λ names k f u rest s. tt))

@@ -17,7 +17,7 @@ use Rattle.sour_raw.specs.Expressions.{begins_literal}
 use Rattle.sour_raw.specs.Plan.{values_at, input_at, each_input_at, inputs_at, section_at, sections_at}
 use Rattle.laws_grammar.proofs.Kit.{Exact, Any, exact_as, image, exact_image, out, exact_any, empty, exact_nothing, either, exact_choose, leads, exact_then, begins_full}
 use Rattle.laws_grammar.proofs.Leaves.{Next, next_is, headed, pairs, exact_both, exact_after, exact_ended, exact_lined, IsNone}
-use Rattle.laws_grammar.proofs.Lists.{plain_law, exact_repeated}
+use Rattle.laws_grammar.proofs.Lists.{unseparated_law, exact_repeated}
 use Rattle.laws_grammar.proofs.Keys.{exact_key, sections_found}
 use Rattle.laws_grammar.proofs.Literals.{literal_begins, literals_begin, exact_literal}
 use Rattle.laws_grammar.proofs.Paths.{starts_with}
@@ -37,7 +37,7 @@ literal_items other e = refl
 exact_values : Exact (each (λ names. literal) alone (Some 65536) no_names) (Next LineEnd) values_at
 unfolding values_at
 exact_values =
-    exact_repeated (plain_law begins_literal alone (λ names. exact_literal)
+    exact_repeated (unseparated_law begins_literal alone (λ names. exact_literal)
     (λ names. record {
       starts = λ k a u rest s. literal_begins begins_literal true literals_begin k a u rest s;
       items = literal_items;
@@ -61,7 +61,7 @@ exact_input =
 exact_each_input : Exact (each (λ names. input) alone (Some 4096) no_names) IsNone each_input_at
 unfolding each_input_at
 exact_each_input =
-    exact_repeated (plain_law (is input_word) alone (λ names. exact_input)
+    exact_repeated (unseparated_law (is input_word) alone (λ names. exact_input)
     (λ names. starts_with input_word refl (λ k i u rest s. headed input_word (is input_word) true refl u rest s.0))
     (λ rest f. (rw f refl, tt)) (λ names k x u rest s. tt)) (Some 4096) no_names
 

@@ -6,12 +6,12 @@ use Rattle.sour_raw.specs.declared.kind.Kind.TheVariants.{Form as form, Number a
 use Rattle.sour_raw.specs.Lexemes.{is}
 use Rattle.sour_raw.specs.Spelling.{Tokens, less, HasRoom, each, after_separator, listed, one_or_more, Language}
 use Rattle.sour_raw.specs.Fault.{earlier, Same, separates}
-use Rattle.sour_raw.specs.Combinators.{Out, Reading, ◌>>=◌, next, leading, mapped, both, Items, by_room, many, repeated, plain, others, listed_at, one_or_more_at}
+use Rattle.sour_raw.specs.Combinators.{Out, Reading, ◌>>=◌, next, leading, mapped, both, Items, by_room, many, repeated, unseparated, others, listed_at, one_or_more_at}
 use Rattle.laws_grammar.proofs.Same.{same_refl, same_head, same_whole, next_same}
 use Rattle.laws_grammar.proofs.Lexemes.{is_itself}
 use Rattle.laws_grammar.proofs.Kit.{Verdict, took, IsLater, Passes, Looser, Exact, bind_same, verdict_to, same_out, exact_as, image, verdict_image, exact_image, out, exact_any, empty, exact_nothing, leads, verdict_after, stuck_first, passes_bind, either, exact_choose}
 use Rattle.laws_grammar.proofs.Leaves.{pairs, exact_both, exact_after, headed}
-use Rattle.laws_grammar.proofs.OneTooMany.{Over, Starts, exact_over, over_plain, over_after}
+use Rattle.laws_grammar.proofs.OneTooMany.{Over, Starts, exact_over, over_here, over_after}
 
 -- what is known of how items are read; FI says what may follow one, F what may follow them all
 pub record ItemsLaw {St X : Type 0} (S : St → Language X) (FI F : Tokens) (w : Items St X) : Type 0 where
@@ -287,14 +287,14 @@ exact_repeated {w = w} law room st = record {
 -- ---- lists
 
 -- what is known of items that stand side by side
-pub plain_law : {St X : Type 0} {S : St → Language X} {FI F : Tokens} {r : St → Reading X} (p : Lexeme → Bool)
+pub unseparated_law : {St X : Type 0} {S : St → Language X} {FI F : Tokens} {r : St → Reading X} (p : Lexeme → Bool)
     (step : St → X → St) → ((st : St) → Exact (S st) FI (r st))
     → ((st : St) → Starts (S st) p) → ((rest : List Placed) → F rest → (next p rest ≡ false) × FI rest)
     → ((st : St) (k : Kind) (x : X) (u rest : List Placed) → S st k x u → FI (u ++ rest))
-    → ItemsLaw S FI F (plain p r step)
-plain_law {St = St} {X = X} {S = S} {FI = FI} {F = F} p step e h ends next' = record {
+    → ItemsLaw S FI F (unseparated p r step)
+unseparated_law {St = St} {X = X} {S = S} {FI = FI} {F = F} p step e h ends next' = record {
   item = e;
-  over = λ st. over_plain (exact_over p (e st) (h st));
+  over = λ st. over_here (exact_over p (e st) (h st));
   starts = λ st. (h st).starts;
   ends = λ rest f. (ends rest f).0;
   follows = follows;

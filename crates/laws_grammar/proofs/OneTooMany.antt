@@ -192,8 +192,8 @@ exact_over {X = X} {S = S} {r = r} p e h = record {
   all other ts s here (over placed g here') = here'
 
 -- so it is refused
-pub over_plain : {X : Type 0} {S : Language X} {F : Tokens} {o : Reading X} → OverHere S F o → Over S F o
-over_plain h = record {
+pub over_here : {X : Type 0} {S : Language X} {F : Tokens} {o : Reading X} → OverHere S F o → Over S F o
+over_here h = record {
   passes = h.passes;
   stuck = λ ts. let a = h.stuck ts in record {
     kind = a.0;

@@ -13,7 +13,7 @@ use Rattle.laws_grammar.proofs.Lexemes.{is_same}
 use Rattle.laws_grammar.proofs.Kit.{Exact, exact_as, exact_image, Begins, begins_first}
 use Rattle.laws_grammar.proofs.Leaves.{exact_free, exact_after, headed}
 use Rattle.laws_grammar.proofs.OneTooMany.{Starts}
-use Rattle.laws_grammar.proofs.Lists.{plain_law, exact_repeated}
+use Rattle.laws_grammar.proofs.Lists.{unseparated_law, exact_repeated}
 use Rattle.laws_grammar.proofs.Names.{OfWords, label_begins, exact_label, exact_part}
 
 -- no further part of a path comes next
@@ -32,7 +32,7 @@ starts_with lexeme item begins = record {
 exact_parts : Exact (each (after_separator slash (λ names. part)) alone None no_names) NoPart parts_at
 unfolding parts_at
 exact_parts =
-    exact_repeated (plain_law (is slash) alone (λ names. exact_after slash exact_part)
+    exact_repeated (unseparated_law (is slash) alone (λ names. exact_after slash exact_part)
     (λ names. starts_with slash refl (λ k x. headed slash (is slash) true refl)) (λ rest f. (f, tt))
     (λ names k x u rest s. tt)) None no_names
 

@@ -21,7 +21,7 @@ use Rattle.sour_raw.specs.Plan.{says_label, psimple_at, pred_at, start_at, pass_
 use Rattle.laws_grammar.proofs.Kit.{Exact, Any, exact_as, image, exact_image, out, exact_any, empty, exact_nothing, either, exact_choose, leads, exact_then, Begins, begins_first, begins_full}
 use Rattle.laws_grammar.proofs.Leaves.{Next, next_is, begins_one, headed, pairs, exact_both, exact_free, exact_after, exact_ended, exact_lined}
 use Rattle.laws_grammar.proofs.OneTooMany.{Starts}
-use Rattle.laws_grammar.proofs.Lists.{plain_law, exact_repeated, exact_listed}
+use Rattle.laws_grammar.proofs.Lists.{unseparated_law, exact_repeated, exact_listed}
 use Rattle.laws_grammar.proofs.Keys.{exact_key, starts_found, pass_words_found, keys_pass, keys_fail}
 use Rattle.laws_grammar.proofs.Names.{OfWords, labels_say, exact_name}
 use Rattle.laws_grammar.proofs.Literals.{LiteralTokens, literal_tokens, literal_begins, exact_literal}
@@ -196,6 +196,6 @@ NoJob ts = next (is job_word) ts ≡ false
 pub exact_plan_jobs : Exact (each (λ names. plan_job) alone (Some 1024) no_names) NoJob plan_jobs_at
 unfolding plan_jobs_at
 exact_plan_jobs =
-    exact_repeated (plain_law (is job_word) alone (λ names. exact_plan_job)
+    exact_repeated (unseparated_law (is job_word) alone (λ names. exact_plan_job)
     (λ names. starts_with job_word refl (λ k j u rest s. headed job_word (is job_word) true refl u rest s.0))
     (λ rest f. (f, tt)) (λ names k x u rest s. tt)) (Some 1024) no_names

@@ -12,7 +12,7 @@ use Rattle.sour_raw.specs.declared.raw.RawPlanJob.{RawPlanJob}
 use Rattle.sour_raw.specs.declared.raw.RawInput.{RawInput}
 use Rattle.sour_raw.specs.declared.raw.RawJob.{RawJob}
 use Rattle.sour_raw.specs.Order.{version_lines, function_lines, item_lines, Ascends}
-use Rattle.sour_checked.specs.Fault.{Fault, plain, twice, unknown, falls_off, no_main}
+use Rattle.sour_checked.specs.Fault.{Fault, nameless, twice, unknown, falls_off, no_main}
 use Rattle.sour_checked.specs.Texts.{TextVersion, text_version, function_names, version_names, number_in, labels}
 use Rattle.sour_checked.specs.Parts.{job_functions, input_functions}
 use Rattle.sour_checked.specs.Names.{Broken, IsNotAfter, broken_if, unknown_each, names_broken, takes_some, main_is_broken, main_broken}
@@ -248,14 +248,14 @@ ordered_first [] fault ordered is = absurd (cc)
 ordered_first (broken ∷ all) fault ordered is = record {
   broken = broken;
   first = record { is = (0, omega arith, refl); least = (inr (refl, omega arith), ordered.0) };
-  is = let both : Some (plain broken.kind broken.line) ≡ Some fault = is in cc;
+  is = let both : Some (nameless broken.kind broken.line) ≡ Some fault = is in cc;
 }
 
 -- where one is first, there is a first in order
 some_first : (all : List Broken) (fault : Fault) → IsBroken all fault
     → (other : Fault) × (first_broken all ≡ Some other)
 some_first [] fault broken = absurd (none_broken [] fault refl broken)
-some_first (broken ∷ all) fault is = (plain broken.kind broken.line, refl)
+some_first (broken ∷ all) fault is = (nameless broken.kind broken.line, refl)
 
 -- the first of some is that of others, where what holds of each of the ones holds of each of the others
 first_there : (all others : List Broken) (fault : Fault)

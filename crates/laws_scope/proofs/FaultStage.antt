@@ -8,7 +8,7 @@ use Rattle.sour_syntax.specs.Program.{ProgramView}
 use Rattle.sour_raw.specs.declared.raw.RawJob.{RawJob}
 use Rattle.sour_raw.specs.Written.{IsWritten}
 use Rattle.sour_checked.specs.Checked.{IsChecked}
-use Rattle.sour_checked.specs.Fault.{Fault, plain}
+use Rattle.sour_checked.specs.Fault.{Fault, nameless}
 use Rattle.sour_checked.specs.Names.{Broken, IsNotAfter, IsFirstOf, names_broken, main_broken}
 use Rattle.sour_checked.specs.FirstFault.{scope_fault, exit_fault, IsBroken, IsFirstFault}
 use Rattle.laws_scope.specs.Right.{FindsNothing}
@@ -68,7 +68,7 @@ broken_or : (all : List Broken) → ((fault : Fault) × IsBroken all fault) ⊎ 
 broken_or [] = inr refl
 broken_or (one ∷ all) =
     let first = first_of one all in inl (
-      plain first.0.kind first.0.line,
+      nameless first.0.kind first.0.line,
       record
           { broken = first.0; first = first.1; is = refl },
     )

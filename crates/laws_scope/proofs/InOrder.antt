@@ -4,7 +4,7 @@ use Rattle.std.specs.List.{AllByRecursion, flat_map}
 use Rattle.sour_syntax.proofs.Everywhere.{AllByRecursion-append}
 use Rattle.sour_raw.specs.declared.raw.RawLine.{RawLine}
 use Rattle.sour_raw.specs.declared.raw.RawFunction.{RawFunction}
-use Rattle.sour_checked.specs.Fault.{Fault, plain, twice, unknown, falls_off}
+use Rattle.sour_checked.specs.Fault.{Fault, nameless, twice, unknown, falls_off}
 use Rattle.sour_checked.specs.Texts.{TextVersion, function_names, version_at, variables, labels}
 use Rattle.sour_checked.specs.Parts.{Leave, instr_functions, instr_labels, leaves}
 use Rattle.sour_checked.specs.Names.{Broken, broken_if, repeated, unknown_on, unknown_each, unknown_result, unknown_target}
@@ -61,9 +61,9 @@ AreAll kind line all = AllByRecursion (λ (broken : Broken). broken ≡ record {
 
 -- so it is the first, where there is one
 pub first_of_all : (kind line : ℕ) (all : List Broken) → AreAll kind line all → (all ≡ [] → ⊥)
-    → first_broken all ≡ Some (plain kind line)
+    → first_broken all ≡ Some (nameless kind line)
 first_of_all kind line [] are some = absurd (some refl)
-first_of_all kind line (broken ∷ all) are some = ap (λ (it : Broken). Some (plain it.kind it.line)) are.0
+first_of_all kind line (broken ∷ all) are some = ap (λ (it : Broken). Some (nameless it.kind it.line)) are.0
 
 -- joined lists
 all_joined : (kind line : ℕ) (front others : List Broken) → AreAll kind line front → AreAll kind line others

@@ -1,7 +1,7 @@
 -- A text has one first fault at most.
 use Rattle.std.proofs.Common.{◌≡◌, inl, inr, List, [], ◌∷◌, Option, None, Some, sym, ap, ◌∙◌, arith}
 use Rattle.sour_syntax.proofs.Everywhere.{AllByRecursion-contains}
-use Rattle.sour_checked.specs.Fault.{Fault, plain}
+use Rattle.sour_checked.specs.Fault.{Fault, nameless}
 use Rattle.sour_checked.specs.Names.{Broken, IsNotAfter}
 use Rattle.sour_checked.specs.FirstFault.{IsBroken}
 use Rattle.laws_scope.specs.Laws.{FaultsOnce}
@@ -22,7 +22,7 @@ broken_once all fault other one another =
     let same = not_after_both one.broken another.broken
     (AllByRecursion-contains (IsNotAfter one.broken) all another.broken another.first.is one.first.least)
     (AllByRecursion-contains (IsNotAfter another.broken) all one.broken one.first.is another.first.least) in
-    one.is ∙ ap (λ kind. plain kind one.broken.line) same.1 ∙ ap (plain another.broken.kind) same.0 ∙ sym another.is
+    one.is ∙ ap (λ kind. nameless kind one.broken.line) same.1 ∙ ap (nameless another.broken.kind) same.0 ∙ sym another.is
 
 -- none of no rules is broken
 pub none_broken : (all : List Broken) (fault : Fault) → all ≡ [] → IsBroken all fault → ⊥

@@ -377,9 +377,9 @@ module _ (P : Broken → Type 0) where
         )
 
   -- what each breaks, whatever its place
-  plain_order : {X : Type 0} (f : X → List Broken) (xs : List X)
+  placeless_order : {X : Type 0} (f : X → List Broken) (xs : List X)
       → All (each_in_order (λ place. f) 0 xs) ↔ All (flat_map f xs)
-  plain_order f xs = iff_then (in_order (λ place. f) 0 xs)
+  placeless_order f xs = iff_then (in_order (λ place. f) 0 xs)
       (iff_then (at_each (λ x. All (f x)) 0 xs) (iff_back (many f xs)))
 
   -- what holds of each rule that a text breaks holds of each in the order of the text
@@ -398,5 +398,5 @@ module _ (P : Broken → Type 0) where
       (each_in_order (λ place. job_broken raw.functions) 0 raw.plan)
       (each_in_order (λ place. input_broken raw.functions) 0 raw.inputs) in
       iff_then names (iff_then (iff_three functions
-      (iff_back (plain_order (job_broken raw.functions) raw.plan))
-      (iff_back (plain_order (input_broken raw.functions) raw.inputs))) (iff_back order))
+      (iff_back (placeless_order (job_broken raw.functions) raw.plan))
+      (iff_back (placeless_order (input_broken raw.functions) raw.inputs))) (iff_back order))

@@ -9,7 +9,7 @@ use Rattle.sour_raw.specs.declared.raw.RawPlanJob.{RawPlanJob}
 use Rattle.sour_raw.specs.declared.raw.RawInput.{RawInput}
 use Rattle.sour_raw.specs.declared.raw.RawJob.{RawJob}
 use Rattle.sour_checked.specs.Numbered.{label_of}
-use Rattle.sour_checked.specs.Fault.{Fault, plain, twice, falls_off}
+use Rattle.sour_checked.specs.Fault.{Fault, nameless, twice, falls_off}
 use Rattle.sour_checked.specs.Texts.{TextVersion, text_version, function_names, version_names, number_in, version_at, labels}
 use Rattle.sour_checked.specs.Parts.{Leave, instr_functions, instr_labels, is_terminator, leaves, job_functions, input_functions}
 use Rattle.sour_checked.specs.Names.{Broken, broken_if, repeated_on, unknown_each, unknown_target}
@@ -17,7 +17,7 @@ use Rattle.sour_checked.specs.Names.{Broken, broken_if, repeated_on, unknown_eac
 -- the fault that the first of these is, if there is one
 abbrev pub first_broken : List Broken → Option Fault
 first_broken [] = None
-first_broken (broken ∷ others) = Some (plain broken.kind broken.line)
+first_broken (broken ∷ others) = Some (nameless broken.kind broken.line)
 
 -- what each of these breaks, the first of which stands at this place
 abbrev pub each_in_order : {X : Type 0} → (ℕ → X → List Broken) → ℕ → List X → List Broken

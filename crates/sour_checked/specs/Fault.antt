@@ -42,8 +42,8 @@ abbrev pub no_main : ℕ
 no_main = 8
 
 -- a fault without names
-abbrev pub plain : ℕ → ℕ → Fault
-plain kind line = record { kind = kind; line = line; first = []; second = [] }
+abbrev pub nameless : ℕ → ℕ → Fault
+nameless kind line = record { kind = kind; line = line; first = []; second = [] }
 
 -- the first of two faults, if there is one
 abbrev pub or_else : Option Fault → Option Fault → Option Fault

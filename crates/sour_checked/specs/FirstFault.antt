@@ -3,7 +3,7 @@
 use Rattle.std.specs.Prelude.{◌≡◌, ◌⊎◌, ℕ, List, [], Option, None, Some, Result, Ok, Err, get_or}
 use Rattle.sour_raw.specs.declared.raw.RawFunction.{RawFunction}
 use Rattle.sour_raw.specs.declared.raw.RawJob.{RawJob}
-use Rattle.sour_checked.specs.Fault.{Fault, plain, not_in_scope, in_scope, scopes_differ, first_fault_of}
+use Rattle.sour_checked.specs.Fault.{Fault, nameless, not_in_scope, in_scope, scopes_differ, first_fault_of}
 use Rattle.sour_checked.specs.Texts.{TextVersion, text_versions, body, line_numbers}
 use Rattle.sour_checked.specs.Names.{Broken, IsFirstOf, names_broken, main_broken}
 use Rattle.sour_syntax.specs.declared.body_fault.BodyFault.{BodyFault}
@@ -14,8 +14,8 @@ use Rattle.sour_checked.specs.Landing.{landing_fault}
 
 -- the fault of a text that the fault of a body is, whose lines stand on these lines of the text
 abbrev pub fault_of : List ℕ → BodyFault → Fault
-fault_of line_numbers (NotInScope place) = plain not_in_scope (get_or line_numbers place 0)
-fault_of line_numbers (InScope place) = plain in_scope (get_or line_numbers place 0)
+fault_of line_numbers (NotInScope place) = nameless not_in_scope (get_or line_numbers place 0)
+fault_of line_numbers (InScope place) = nameless in_scope (get_or line_numbers place 0)
 fault_of line_numbers (ScopesDiffer place had other) =
     record { kind = scopes_differ; line = get_or line_numbers place 0; first = had; second = other }
 
@@ -40,7 +40,7 @@ exit_fault raw = first_fault_of (landing_fault raw.functions) (text_versions 0 r
 pub record IsBroken (all : List Broken) (fault : Fault) : Type 0 where
   pub broken : Broken
   pub first : IsFirstOf all broken
-  pub is : fault ≡ plain broken.kind broken.line
+  pub is : fault ≡ nameless broken.kind broken.line
 
 -- names are wrong
 abbrev pub IsNamesFault : RawJob → Fault → Type 0

@@ -3,7 +3,7 @@ use Rattle.std.specs.Prelude.{ℕ, Bool, true, false, ◌&&◌, List, [], ◌∷
 use Rattle.sour_syntax.specs.Scopes.{Scope}
 use Rattle.sour_raw.specs.declared.raw.RawLine.{RawLine}
 use Rattle.sour_raw.specs.declared.raw.RawFunction.{RawFunction}
-use Rattle.sour_checked.specs.Fault.{Fault, plain, unknown, map_differs, or_else, first_fault_of}
+use Rattle.sour_checked.specs.Fault.{Fault, nameless, unknown, map_differs, or_else, first_fault_of}
 use Rattle.sour_checked.specs.Texts.{TextVersion, body, version_at, variables, labels, number_in}
 use Rattle.sour_checked.specs.Parts.{Leave, leaves}
 use Rattle.sour_checked.specs.Names.{is_among}
@@ -49,7 +49,7 @@ fits waits mapped scope = has_result waits scope && same_scope mapped (scope_wit
 
 -- the fault of a continuation on a line, whose map is of these names, where its target has these variables and this scope
 abbrev pub fit_fault : ℕ → List (List ℕ) → Option ℕ → List (List ℕ) → Scope → Option Scope → Option Fault
-fit_fault line variables waits names mapped None = Some (plain unknown line)
+fit_fault line variables waits names mapped None = Some (nameless unknown line)
 fit_fault line variables waits names mapped (Some scope) =
     if fits waits mapped scope then None
     else Some (record {
@@ -61,7 +61,7 @@ fit_fault line variables waits names mapped (Some scope) =
 
 -- the same, where it goes on in this version
 abbrev pub target_fault : List RawFunction → ℕ → Leave → Option TextVersion → Option Fault
-target_fault functions line leave None = Some (plain unknown line)
+target_fault functions line leave None = Some (nameless unknown line)
 target_fault functions line leave (Some text) =
     fit_fault line (variables text) (waiting (variables text) leave.waits) leave.names
     (scope_of (variables text) leave.names) (scope_at functions text leave.target.label)

@@ -62,9 +62,9 @@ pub divided-checked : (a b : ℤ) (whole : Option ℤ) (result : Result Value Tr
     → ((z : ℤ) → SomeIff whole (FitsSigned w64 z) z → number z ≡ result) → divided b (int_div a b) ≡ result
 divided-checked a b whole result fits_a fits_b other told given =
     let bits : 0 < of_z w64 b = omega (arith, other) in
-    let plain : SomeIff whole (CanDivide w64 a b) (int_div a b) = simp to_z-of_z at told in
+    let exact : SomeIff whole (CanDivide w64 a b) (int_div a b) = simp to_z-of_z at told in
     divided-nonzero b (int_div a b) (λ zero. other (ap (of_z w64) zero))
-    ∙ given (int_div a b) (changed whole (int_div a b) (λ can. can.1) (λ fits. (bits, fits)) plain)
+    ∙ given (int_div a b) (changed whole (int_div a b) (λ can. can.1) (λ fits. (bits, fits)) exact)
 
 -- what a wrapping remainder gives
 pub divided-left_over : (a b left : ℤ) → FitsSigned w64 a → FitsSigned w64 b → (of_z w64 b ≡ 0 → ⊥)
@@ -73,8 +73,8 @@ pub divided-left_over : (a b left : ℤ) → FitsSigned w64 a → FitsSigned w64
 divided-left_over a b left fits_a fits_b other told =
     let apart : b ≢ pos 0 = λ zero. other (ap (of_z w64) zero) in
     let fits : FitsSigned w64 (int_rem a b) = fits-int_rem a b apart fits_b in
-    let plain : left ≡ int_rem a b = simp to_z-of_z at told in
+    let exact : left ≡ int_rem a b = simp to_z-of_z at told in
     divided-nonzero b (a -ℤ (b *ℤ int_div a b)) apart
     ∙ ap number (remainder-int_rem a b)
     ∙ number-fits (int_rem a b) fits
-    ∙ ap (λ z. Ok (Plain (Number z))) (sym (to_z-of_z w64 (int_rem a b) fits) ∙ ap (λ z. to_z w64 (of_z w64 z)) (sym plain))
+    ∙ ap (λ z. Ok (Plain (Number z))) (sym (to_z-of_z w64 (int_rem a b) fits) ∙ ap (λ z. to_z w64 (of_z w64 z)) (sym exact))

@@ -110,8 +110,8 @@ abbrev pub repeated : {St X : Type 0} → Items St X → Option ℕ → St → R
 repeated w room st ts = many w (length ts) room st ts
 
 -- items that stand side by side
-abbrev pub plain : {St X : Type 0} → (Lexeme → Bool) → (St → Reading X) → (St → X → St) → Items St X
-plain p r step = record { first = p; item = r; over = λ st. too_many (r st); step = step }
+abbrev pub unseparated : {St X : Type 0} → (Lexeme → Bool) → (St → Reading X) → (St → X → St) → Items St X
+unseparated p r step = record { first = p; item = r; over = λ st. too_many (r st); step = step }
 
 -- items with this token before each
 abbrev pub others : {St X : Type 0} → Lexeme → (St → Reading X) → (St → X → St) → Items St X

@@ -16,7 +16,7 @@ use Rattle.sour_raw.specs.declared.parts.Section.{Section}
 use Rattle.sour_raw.specs.declared.parts.Section.TheVariants as section
 use Rattle.sour_raw.specs.Spelling.{limit, after_all, alone}
 use Rattle.sour_raw.specs.Words.{word_at, saying_at}
-use Rattle.sour_raw.specs.Combinators.{Reading, leading, mapped, after, ended, both, choose, nothing, lined, plain, repeated, listed_at}
+use Rattle.sour_raw.specs.Combinators.{Reading, leading, mapped, after, ended, both, choose, nothing, lined, unseparated, repeated, listed_at}
 use Rattle.sour_raw.specs.Lexemes.{equal_equal, slash, percent, colon, semicolon, at_sign, is}
 use Rattle.sour_raw.specs.Keys.{keyword, pass_word_of, start_of, section_of}
 use Rattle.sour_raw.specs.Names.{is_short_if_name, label_of, part_of}
@@ -29,7 +29,7 @@ part_at = word_at part_of limit is_short_if_name
 
 -- reads the parts of a path after its label
 unfoldable pub parts_at : Reading (List (List ℕ))
-parts_at = repeated (plain (is slash) (λ names. after slash part_at) alone) None no_names
+parts_at = repeated (unseparated (is slash) (λ names. after slash part_at) alone) None no_names
 
 -- reads a path
 unfoldable pub path_at : Reading (List ℕ)
@@ -87,11 +87,11 @@ plan_job_at =
 
 -- reads the jobs of the plan
 unfoldable pub plan_jobs_at : Reading (List RawPlanJob)
-plan_jobs_at = repeated (plain (is (keyword "job")) (λ names. plan_job_at) alone) (Some 1024) no_names
+plan_jobs_at = repeated (unseparated (is (keyword "job")) (λ names. plan_job_at) alone) (Some 1024) no_names
 
 -- reads the values of an input
 unfoldable pub values_at : Reading (List RawLiteral)
-values_at = repeated (plain begins_literal (λ names. literal_at) alone) (Some 65536) no_names
+values_at = repeated (unseparated begins_literal (λ names. literal_at) alone) (Some 65536) no_names
 
 -- reads an input
 unfoldable pub input_at : Reading RawInput
@@ -100,7 +100,7 @@ input_at =
 
 -- reads the inputs
 unfoldable pub each_input_at : Reading (List RawInput)
-each_input_at = repeated (plain (is (keyword "input")) (λ names. input_at) alone) (Some 4096) no_names
+each_input_at = repeated (unseparated (is (keyword "input")) (λ names. input_at) alone) (Some 4096) no_names
 
 -- reads the inputs after a plan, or none
 unfoldable pub inputs_at : Reading (List RawInput)

@@ -6,7 +6,7 @@ use Rattle.sour_raw.specs.declared.raw.RawVersion.{RawVersion}
 use Rattle.sour_raw.specs.declared.raw.RawFunction.{RawFunction}
 use Rattle.sour_raw.specs.declared.raw.RawJob.{RawJob}
 use Rattle.sour_raw.specs.Spelling.{alone}
-use Rattle.sour_raw.specs.Combinators.{Reading, this, mapped, after, both, lined, complete, plain, repeated, listed_at, one_or_more_at}
+use Rattle.sour_raw.specs.Combinators.{Reading, this, mapped, after, both, lined, complete, unseparated, repeated, listed_at, one_or_more_at}
 use Rattle.sour_raw.specs.Lexemes.{open_paren, close_paren, comma, is}
 use Rattle.sour_raw.specs.Keys.{keyword}
 use Rattle.sour_raw.specs.Variables.{with_line}
@@ -17,7 +17,7 @@ use Rattle.sour_raw.specs.Plan.{sections_at}
 
 -- reads the lines of a version
 unfoldable pub lines_at : List (List ℕ) → Reading (List RawLine)
-lines_at names = repeated (plain begins_line line_at with_line) (Some 4096) names
+lines_at names = repeated (unseparated begins_line line_at with_line) (Some 4096) names
 
 -- reads a version of a function with these parameters
 unfoldable pub version_at : List (List ℕ) → Reading RawVersion
@@ -28,7 +28,7 @@ version_at parameters =
 -- reads the versions of a function with these parameters
 unfoldable pub versions_at : List (List ℕ) → Reading (List RawVersion)
 versions_at parameters =
-    one_or_more_at (plain (is (keyword "ver")) (λ names. version_at parameters) alone) (Some 16) no_names
+    one_or_more_at (unseparated (is (keyword "ver")) (λ names. version_at parameters) alone) (Some 16) no_names
 
 -- reads the parameters of a function
 unfoldable pub parameters_at : Reading (List (List ℕ))
@@ -43,7 +43,7 @@ function_at =
 
 -- reads the functions
 unfoldable pub functions_at : Reading (List RawFunction)
-functions_at = one_or_more_at (plain (is (keyword "fun")) (λ names. function_at) alone) (Some 256) no_names
+functions_at = one_or_more_at (unseparated (is (keyword "fun")) (λ names. function_at) alone) (Some 256) no_names
 
 -- reads a job
 unfoldable pub job_at : Reading RawJob

@@ -4,7 +4,7 @@ ghost use Rattle.std.specs.Prelude.{◌≡◌, IfOk};
 ghost use Rattle.sour_tokens.specs.declared.symbols.Symbol.TheVariants.{Comma};
 ghost use Rattle.sour_lexer.specs.Placed.{Sign};
 ghost use Rattle.sour_raw.specs.Spelling.{alone};
-ghost use Rattle.sour_raw.specs.Combinators.{others, plain};
+ghost use Rattle.sour_raw.specs.Combinators.{others, unseparated};
 ghost use Rattle.sour_raw.specs.Lexemes.{is};
 ghost use Rattle.sour_raw.specs.Keys.{keyword};
 ghost use Rattle.sour_raw.specs.Grammar.{parameter_names as names_of_parameters};
@@ -73,7 +73,7 @@ struct EachVersion {
 impl Item for EachVersion {
     type Out = RawVersion;
 
-    ghost items = { λ each. plain (is (keyword "ver")) (λ names. version_at each.parameters) alone };
+    ghost items = { λ each. unseparated (is (keyword "ver")) (λ names. version_at each.parameters) alone };
 
     fn comes(&self, tokens: Rest<'_>) -> bool {
         has_word(tokens, b"ver")
@@ -197,7 +197,7 @@ struct EachFunction;
 impl Item for EachFunction {
     type Out = RawFunction;
 
-    ghost items = { λ _. plain (is (keyword "fun")) (λ names. function_at) alone };
+    ghost items = { λ _. unseparated (is (keyword "fun")) (λ names. function_at) alone };
 
     fn comes(&self, tokens: Rest<'_>) -> bool {
         has_word(tokens, b"fun")

@@ -1,7 +1,7 @@
 //! Inputs and their values.
 
 ghost use Rattle.std.specs.Prelude.{◌≡◌};
-ghost use Rattle.sour_raw.specs.Combinators.{plain};
+ghost use Rattle.sour_raw.specs.Combinators.{unseparated};
 ghost use Rattle.sour_raw.specs.Expressions.{literal_at, begins_literal};
 ghost use Rattle.sour_raw.specs.Keys.{keyword};
 ghost use Rattle.sour_raw.specs.Lexemes.{is};
@@ -33,7 +33,7 @@ struct EachValue;
 impl Item for EachValue {
     type Out = RawLiteral;
 
-    ghost items = { λ _. plain begins_literal (λ names. literal_at) alone };
+    ghost items = { λ _. unseparated begins_literal (λ names. literal_at) alone };
 
     fn comes(&self, tokens: Rest<'_>) -> bool {
         has_literal(tokens)
@@ -81,7 +81,7 @@ struct EachInput;
 impl Item for EachInput {
     type Out = RawInput;
 
-    ghost items = { λ _. plain (is (keyword "input")) (λ names. input_at) alone };
+    ghost items = { λ _. unseparated (is (keyword "input")) (λ names. input_at) alone };
 
     fn comes(&self, tokens: Rest<'_>) -> bool {
         has_word(tokens, b"input")

@@ -2,7 +2,7 @@
 
 ghost use Rattle.std.specs.Prelude.{◌≡◌, ℕ, IfOk, List as Listed};
 ghost use Rattle.sour_lexer.specs.Placed.{LineEnd, lexeme_of, all_placed};
-ghost use Rattle.sour_raw.specs.Combinators.{next, ended, plain};
+ghost use Rattle.sour_raw.specs.Combinators.{next, ended, unseparated};
 ghost use Rattle.sour_raw.specs.Keys.{heading_of as is_heading};
 ghost use Rattle.sour_raw.specs.Instructions.{heading_at, headed_at, content_at, line_at, begins_line};
 ghost use Rattle.sour_raw.specs.Productions.{lines_at};
@@ -158,7 +158,7 @@ struct EachLine;
 impl Item for EachLine {
     type Out = RawLine;
 
-    ghost items = { λ _. plain begins_line line_at with_line };
+    ghost items = { λ _. unseparated begins_line line_at with_line };
 
     fn comes(&self, tokens: Rest<'_>) -> bool {
         has_name(tokens) || has_instr_word(tokens)

@@ -3,7 +3,7 @@
 ghost use Rattle.std.specs.Prelude.{◌≡◌, IfOk};
 ghost use Rattle.sour_tokens.specs.declared.symbols.Symbol.TheVariants.{Slash};
 ghost use Rattle.sour_lexer.specs.Placed.{Sign};
-ghost use Rattle.sour_raw.specs.Combinators.{after, plain};
+ghost use Rattle.sour_raw.specs.Combinators.{after, unseparated};
 ghost use Rattle.sour_raw.specs.Grammar.{with_part};
 ghost use Rattle.sour_raw.specs.Lexemes.{is};
 ghost use Rattle.sour_raw.specs.Plan.{part_at, parts_at, path_at, anchor_at};
@@ -55,7 +55,7 @@ struct OtherPart;
 impl Item for OtherPart {
     type Out = Label;
 
-    ghost items = { λ _. plain (is (Sign Slash)) (λ names. after (Sign Slash) part_at) alone };
+    ghost items = { λ _. unseparated (is (Sign Slash)) (λ names. after (Sign Slash) part_at) alone };
 
     fn comes(&self, tokens: Rest<'_>) -> bool {
         has_symbol(tokens, Symbol::Slash)

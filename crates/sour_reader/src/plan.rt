@@ -1,7 +1,7 @@
 //! Jobs of the plan.
 
 ghost use Rattle.std.specs.Prelude.{◌≡◌};
-ghost use Rattle.sour_raw.specs.Combinators.{plain};
+ghost use Rattle.sour_raw.specs.Combinators.{unseparated};
 ghost use Rattle.sour_raw.specs.Keys.{keyword};
 ghost use Rattle.sour_raw.specs.Lexemes.{is};
 ghost use Rattle.sour_raw.specs.Plan.{plan_job_at, plan_jobs_at};
@@ -52,7 +52,7 @@ struct EachPlanJob;
 impl Item for EachPlanJob {
     type Out = RawPlanJob;
 
-    ghost items = { λ _. plain (is (keyword "job")) (λ names. plan_job_at) alone };
+    ghost items = { λ _. unseparated (is (keyword "job")) (λ names. plan_job_at) alone };
 
     fn comes(&self, tokens: Rest<'_>) -> bool {
         has_word(tokens, b"job")

@@ -9,7 +9,7 @@ use Rattle.sour_syntax.specs.Scopes.{Scope}
 use Rattle.sour_syntax.specs.Taking.{same_scope, scope_names}
 use Rattle.sour_syntax.specs.Targets.{named_body, scope_of_names}
 use Rattle.sour_syntax.proofs.ScopeTests.{same_scope-Decides}
-use Rattle.sour_checked.specs.Fault.{Fault, plain, unknown, map_differs}
+use Rattle.sour_checked.specs.Fault.{Fault, nameless, unknown, map_differs}
 use Rattle.sour_checked.specs.Landing.{has_result, scope_without, fits, fit_fault}
 use Rattle.sour_scope.specs.Landings.{names_of, label_scope, IsReached, target_fault, continuation_fault}
 use Rattle.sour_scope.proofs.MaskLaws.{scope_of-members}
@@ -34,7 +34,7 @@ module _ (functions : List Function) (line : ℕ) (continuation : Continuation) 
 
   -- the label has no scope
   pub without_scope : label_scope body continuation.target.label ≡ None
-      → continuation_fault functions line continuation ≡ Some (plain unknown line)
+      → continuation_fault functions line continuation ≡ Some (nameless unknown line)
   without_scope none = is_by_scope None none
 
   -- the label has a scope, in which these variables are

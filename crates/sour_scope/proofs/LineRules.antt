@@ -12,7 +12,7 @@ use Rattle.sour_raw.specs.declared.raw.RawInstr.{RawInstr}
 use Rattle.sour_raw.specs.declared.raw.RawFunction.{RawFunction}
 use Rattle.sour_raw.specs.Mentions.{with_names, instr_names}
 use Rattle.sour_checked.specs.Numbered.{label_of, instr_of}
-use Rattle.sour_checked.specs.Fault.{plain, twice, unknown, falls_off}
+use Rattle.sour_checked.specs.Fault.{nameless, twice, unknown, falls_off}
 use Rattle.sour_checked.specs.Texts.{TextVersion, function_names as names_of_functions, version_at as text_version_at, variables, labels, labels_from}
 use Rattle.sour_checked.specs.Parts.{Leave, instr_functions, instr_labels, is_terminator, leaves}
 use Rattle.sour_checked.specs.Names.{Broken, broken_if, is_among, repeated_on, unknown_on, unknown_each, unknown_result, unknown_target}
@@ -109,7 +109,7 @@ module _ (functions : List RawFunction) (text : TextVersion) where
 
     -- a name stands twice
     pub twice_first : (line_twice (labels text) place line ≡ [] → ⊥)
-        → first_broken (line_in_order functions text place line) ≡ Some (plain twice line.line)
+        → first_broken (line_in_order functions text place line) ≡ Some (nameless twice line.line)
     twice_first some =
         let first = first_of_all twice line.line (line_twice (labels text) place line) (line_twice-all (labels text) place line) some in
         first_front (line_twice (labels text) place line ++ line_unknown functions (labels text) line) _ _
@@ -117,12 +117,12 @@ module _ (functions : List RawFunction) (text : TextVersion) where
 
     -- the label does
     pub label_first : stands_before (labels text) (label_of place line.label) place ≡ true
-        → first_broken (line_in_order functions text place line) ≡ Some (plain twice line.line)
+        → first_broken (line_in_order functions text place line) ≡ Some (nameless twice line.line)
     label_first is = twice_first (λ none. let not_so = ((twice_rule place line).0 none).0 in absurd (cc))
 
     -- a name of a map does
     pub map_first : (AllByRecursion (λ (leave : Leave). NamesDiffer leave.names) (leaves line.instr) → ⊥)
-        → first_broken (line_in_order functions text place line) ≡ Some (plain twice line.line)
+        → first_broken (line_in_order functions text place line) ≡ Some (nameless twice line.line)
     map_first not_so = twice_first (λ none. not_so ((twice_rule place line).0 none).1)
 
     module _ (before : stands_before (labels text) (label_of place line.label) place ≡ false) (maps : AllByRecursion (λ (leave : Leave). NamesDiffer leave.names) (leaves line.instr)) (own : AreAmong (variables text) (instr_names line.instr)) where
@@ -132,7 +132,7 @@ module _ (functions : List RawFunction) (text : TextVersion) where
 
       -- a name isn't there
       pub unknown_first : (IsKnownInstr (outlined functions) (shown text) line.instr → ⊥)
-          → first_broken (line_in_order functions text place line) ≡ Some (plain unknown line.line)
+          → first_broken (line_in_order functions text place line) ≡ Some (nameless unknown line.line)
       unknown_first not_so =
           let first = first_of_all unknown line.line (line_unknown functions (labels text) line)
           (line_unknown-all functions (labels text) line) (λ none. not_so ((unknown_rule line own).0 none)) in
@@ -148,7 +148,7 @@ module _ (functions : List RawFunction) (text : TextVersion) where
       -- the last line isn't a terminator
       pub end_first : IsKnownInstr (outlined functions) (shown text) line.instr
           → (nat_eq (suc place) (length text.version.lines) && not (is_terminator line.instr)) ≡ true
-          → first_broken (line_in_order functions text place line) ≡ Some (plain falls_off line.line)
+          → first_broken (line_in_order functions text place line) ≡ Some (nameless falls_off line.line)
       end_first known test =
           first_behind (line_twice (labels text) place line ++ line_unknown functions (labels text) line) _ _ (none_wrong known)
           (ap (λ is. first_broken (broken_if is falls_off line.line)) test)

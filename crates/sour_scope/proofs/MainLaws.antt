@@ -5,7 +5,7 @@ use Rattle.std.proofs.lemmas.List.{length-map}
 use Rattle.std.proofs.lemmas.Option.{slice_get_past}
 use Rattle.sour_syntax.specs.declared.literal.FunId.{FunId}
 use Rattle.sour_raw.specs.declared.raw.RawFunction.{RawFunction}
-use Rattle.sour_checked.specs.Fault.{plain, no_main}
+use Rattle.sour_checked.specs.Fault.{nameless, no_main}
 use Rattle.sour_checked.specs.Names.{broken_if, takes_some, main_is_broken}
 use Rattle.sour_checked.specs.Outline.{function_number}
 use Rattle.sour_checked.specs.Texts.{function_names as names_of_functions, number_in}
@@ -33,7 +33,7 @@ module _ (known : List OutlinedFunction) (functions : List RawFunction) (is : kn
 
   -- the outline doesn't have the name
   pub main_unknown : (IsAmong (function_names known) name → ⊥)
-      → first_broken (main_is_broken named) ≡ Some (plain no_main 1)
+      → first_broken (main_is_broken named) ≡ Some (nameless no_main 1)
   main_unknown not_so =
       ap (λ found. first_broken (main_is_broken found))
       (nothing_at functions (names_of_functions functions) name
@@ -50,14 +50,14 @@ module _ (known : List OutlinedFunction) (functions : List RawFunction) (is : kn
     found = ap (λ (n : FunId). slice_get functions n.0) (sym main_number)
 
     -- nothing does
-    pub main_missing : length functions ≤ number.0 → first_broken (main_is_broken named) ≡ Some (plain no_main 1)
+    pub main_missing : length functions ≤ number.0 → first_broken (main_is_broken named) ≡ Some (nameless no_main 1)
     main_missing past =
         ap (λ function. first_broken (main_is_broken function)) (found ∙ slice_get_past functions number.0 past)
 
     module _ (function : RawFunction) (there : slice_get functions number.0 ≡ Some function) where
       -- it has parameters
       pub main_wrong : 0 < length function.parameters
-          → first_broken (main_is_broken named) ≡ Some (plain no_main function.line)
+          → first_broken (main_is_broken named) ≡ Some (nameless no_main function.line)
       main_wrong some =
           ap (λ it. first_broken (main_is_broken it)) (found ∙ there)
           ∙ ap (λ test. first_broken (broken_if test no_main function.line)) (takes_more function.parameters some)

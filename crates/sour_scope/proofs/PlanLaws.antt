@@ -13,7 +13,7 @@ use Rattle.sour_raw.specs.declared.raw.RawPass.TheVariants.{Inject, Constprop, U
 use Rattle.sour_raw.specs.declared.raw.RawPlanJob.{RawPlanJob}
 use Rattle.sour_raw.specs.declared.raw.RawInput.{RawInput}
 use Rattle.sour_raw.specs.declared.raw.RawFunction.{RawFunction}
-use Rattle.sour_checked.specs.Fault.{plain, unknown}
+use Rattle.sour_checked.specs.Fault.{nameless, unknown}
 use Rattle.sour_checked.specs.Texts.{function_names as names_of_functions}
 use Rattle.sour_checked.specs.Parts.{literal_functions, side_functions, predicate_functions, pass_functions, job_functions, input_functions}
 use Rattle.sour_checked.specs.Names.{Broken, unknown_each}
@@ -91,7 +91,7 @@ module _ (known : List OutlinedFunction) (functions : List RawFunction) (is : kn
 
     -- one that isn't breaks the rule
     one_broken : (P (function_names known) → ⊥)
-        → first_broken (unknown_each line (names_of_functions functions) some) ≡ Some (plain unknown line)
+        → first_broken (unknown_each line (names_of_functions functions) some) ≡ Some (nameless unknown line)
     one_broken not_so =
         first_of_all unknown line (unknown_each line (names_of_functions functions) some)
         (unknown_all line (names_of_functions functions) some)
@@ -105,7 +105,7 @@ module _ (known : List OutlinedFunction) (functions : List RawFunction) (is : kn
 
   -- another one does
   pub job_wrong : (job : RawPlanJob) → (IsKnownJob (function_names known) job → ⊥)
-      → first_broken (job_broken functions job) ≡ Some (plain unknown job.line)
+      → first_broken (job_broken functions job) ≡ Some (nameless unknown job.line)
   job_wrong job =
       one_broken (λ names. IsKnownJob names job) job.line (job_functions job) (λ names. in_job names job)
 
@@ -118,7 +118,7 @@ module _ (known : List OutlinedFunction) (functions : List RawFunction) (is : kn
       none_broken (AreKnown input) input.line (input_functions input) (λ names. in_input names input)
 
   pub input_wrong : (input : RawInput) → (AreKnown input (function_names known) → ⊥)
-      → first_broken (input_broken functions input) ≡ Some (plain unknown input.line)
+      → first_broken (input_broken functions input) ≡ Some (nameless unknown input.line)
   input_wrong input =
       one_broken (AreKnown input) input.line (input_functions input) (λ names. in_input names input)
 

@@ -11,7 +11,7 @@ use Rattle.sour_syntax.specs.Program.{NamesDiffer}
 use Rattle.sour_raw.specs.declared.raw.RawLine.{RawLine}
 use Rattle.sour_raw.specs.declared.raw.RawVersion.{RawVersion}
 use Rattle.sour_raw.specs.declared.raw.RawFunction.{RawFunction}
-use Rattle.sour_checked.specs.Fault.{plain, twice, falls_off}
+use Rattle.sour_checked.specs.Fault.{nameless, twice, falls_off}
 use Rattle.sour_checked.specs.Texts.{text_version, function_names, version_names}
 use Rattle.sour_checked.specs.Names.{Broken, broken_if}
 use Rattle.laws_scope.specs.TextOrder.{first_broken, each_in_order, stands_before, line_in_order, some_lines, version_head, version_in_order, function_head, function_in_order}
@@ -71,7 +71,7 @@ module _ (function : RawFunction) (own : OutlinedFunction) (is : own ≡ outline
 module _ (functions : List RawFunction) (number : ℕ) (function : RawFunction) (place : ℕ) (version : RawVersion) where
   -- a version that has the name of one before it
   pub version_twice : stands_before (version_names function.versions) version.name place ≡ true
-      → first_broken (version_in_order functions number function place version) ≡ Some (plain twice version.line)
+      → first_broken (version_in_order functions number function place version) ≡ Some (nameless twice version.line)
   version_twice before =
       ap (λ test. first_broken ((broken_if test twice version.line ++ some_lines version.line version.lines)
       ++ each_in_order (line_in_order functions (text_version number function version)) 0 version.lines)) before
@@ -83,7 +83,7 @@ module _ (functions : List RawFunction) (number : ℕ) (function : RawFunction) 
 
     -- a version without lines
     pub version_empty : length version.lines ≡ 0
-        → first_broken (version_in_order functions number function place version) ≡ Some (plain falls_off version.line)
+        → first_broken (version_in_order functions number function place version) ≡ Some (nameless falls_off version.line)
     version_empty empty =
         ap (λ (head : List Broken). first_broken (head
         ++ each_in_order (line_in_order functions (text_version number function version)) 0 version.lines))
@@ -129,7 +129,7 @@ module _ (functions : List RawFunction) (number : ℕ) (function : RawFunction) 
   -- a function that has the name of one before it, or two parameters of one name
   pub function_twice : (stands_before (function_names functions) function.name number ≡ false
       → NamesDiffer function.parameters → ⊥)
-      → first_broken (function_in_order functions number function) ≡ Some (plain twice function.line)
+      → first_broken (function_in_order functions number function) ≡ Some (nameless twice function.line)
   function_twice wrong =
       first_front head _ _ (first_of_all twice function.line head (function_head-all functions number function)
       (λ none. let right = head_rule.0 none in wrong right.0 right.1))

@@ -13,7 +13,7 @@ use Rattle.sour_syntax.specs.Exits.{Continuation, continuations_of, bound_names}
 use Rattle.sour_syntax.specs.Scopes.{Scope, members}
 use Rattle.sour_syntax.specs.Taking.{place_of, place_scope, taken}
 use Rattle.sour_syntax.specs.Targets.{named_body, scope_of_names}
-use Rattle.sour_checked.specs.Fault.{Fault, plain, unknown, first_fault_of}
+use Rattle.sour_checked.specs.Fault.{Fault, nameless, unknown, first_fault_of}
 use Rattle.sour_checked.specs.Landing.{found_places, fit_fault}
 
 -- the names of some variables
@@ -37,7 +37,7 @@ pub record IsReached (body : BodyView) (found : Option Scope) (variables : List 
 
 -- the fault of a continuation on a line, where its target is in this body
 abbrev pub target_fault : ℕ → Continuation → Option BodyView → Option Fault
-target_fault line continuation None = Some (plain unknown line)
+target_fault line continuation None = Some (nameless unknown line)
 target_fault line continuation (Some body) =
     fit_fault line body.variables continuation.waits (names_of body.variables (bound_names continuation.binds))
     (scope_of_names (length body.variables) (bound_names continuation.binds))

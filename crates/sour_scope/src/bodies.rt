@@ -34,10 +34,10 @@ fn told(alloc: Global, fault: BodyFault, line_numbers: &[u64]) -> ScopeFault
 {
     match fault {
         BodyFault::NotInScope(place) => {
-            ScopeFault::plain(alloc, NOT_IN_SCOPE, line_at(line_numbers, place))
+            ScopeFault::nameless(alloc, NOT_IN_SCOPE, line_at(line_numbers, place))
         }
         BodyFault::InScope(place) => {
-            ScopeFault::plain(alloc, IN_SCOPE, line_at(line_numbers, place))
+            ScopeFault::nameless(alloc, IN_SCOPE, line_at(line_numbers, place))
         }
         BodyFault::ScopesDiffer(place, first, second) => ScopeFault::At {
             kind: SCOPES_DIFFER,

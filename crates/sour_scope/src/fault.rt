@@ -53,7 +53,7 @@ pub enum ScopeFault {
 
 impl ScopeFault {
     /// A fault without names. It takes no memory.
-    pub(crate) fn plain(alloc: Global, kind: u32, line: u64) -> ScopeFault
+    pub(crate) fn nameless(alloc: Global, kind: u32, line: u64) -> ScopeFault
         ensures { result ≡ ScopeFault.At kind line [] [] }
     {
         ScopeFault::At {

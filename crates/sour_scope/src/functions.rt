@@ -44,10 +44,10 @@ fn version_of(
         within.version) ≡ Some fault)) }
 {
     if own.stands_before(&raw.name, place) {
-        return Err(ScopeFault::plain(alloc, TWICE, raw.line));
+        return Err(ScopeFault::nameless(alloc, TWICE, raw.line));
     }
     if raw.lines.len() == 0 {
-        return Err(ScopeFault::plain(alloc, FALLS_OFF, raw.line));
+        return Err(ScopeFault::nameless(alloc, FALLS_OFF, raw.line));
     }
     let version = own.get(place).unwrap();
     lines_of(alloc, raw.lines, outline, version)
@@ -104,7 +104,7 @@ fn function_of(
     if outline.stands_before(&raw.name, number)
         || !are_distinct(alloc, raw.parameters.as_slice())?
     {
-        return Err(ScopeFault::plain(alloc, TWICE, raw.line));
+        return Err(ScopeFault::nameless(alloc, TWICE, raw.line));
     }
     let parameters = raw.parameters.len() as u32;
     let own = outline.get(number).unwrap();

@@ -50,7 +50,7 @@ fn input_of(alloc: Global, raw: &RawInput, outline: &Outline) -> Result<List<Lit
 {
     match values_of(alloc, raw.values.as_slice(), outline) {
         Ok(values) => Ok(values),
-        Err(Unnumbered::Unknown) => Err(ScopeFault::plain(alloc, UNKNOWN, raw.line)),
+        Err(Unnumbered::Unknown) => Err(ScopeFault::nameless(alloc, UNKNOWN, raw.line)),
         Err(Unnumbered::Memory) => Err(ScopeFault::Memory),
     }
 }

@@ -120,10 +120,10 @@ pub(crate) fn continuation_fits(
         (record { target = target.now; binds = binds.now; waits = waits })) result }
 {
     let Some(body) = body_named(functions, target.code) else {
-        return Err(ScopeFault::plain(alloc, UNKNOWN, line));
+        return Err(ScopeFault::nameless(alloc, UNKNOWN, line));
     };
     let Some(variables) = scope_at_label(body, &target.label) else {
-        return Err(ScopeFault::plain(alloc, UNKNOWN, line));
+        return Err(ScopeFault::nameless(alloc, UNKNOWN, line));
     };
     let names = body.variables();
     let count = names.len();

@@ -72,16 +72,16 @@ fn line_of(
     let RawLine { line, label, instr } = raw;
     let label = label_of(alloc, place as u32, label)?;
     if stands_before(&own.labels, &label, place) || !has_distinct_maps(alloc, &instr)? {
-        return Err(ScopeFault::plain(alloc, TWICE, line));
+        return Err(ScopeFault::nameless(alloc, TWICE, line));
     }
     let ends = is_terminator(&instr);
     let instr = match instr_of(alloc, instr, outline, own) {
         Ok(instr) => instr,
-        Err(Unnumbered::Unknown) => return Err(ScopeFault::plain(alloc, UNKNOWN, line)),
+        Err(Unnumbered::Unknown) => return Err(ScopeFault::nameless(alloc, UNKNOWN, line)),
         Err(Unnumbered::Memory) => return Err(ScopeFault::Memory),
     };
     if place + 1 == count && !ends {
-        return Err(ScopeFault::plain(alloc, FALLS_OFF, line));
+        return Err(ScopeFault::nameless(alloc, FALLS_OFF, line));
     }
     Ok(Line { label, instr })
 }

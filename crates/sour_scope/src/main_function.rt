@@ -30,13 +30,13 @@ pub(crate) fn main_of(
         (number_in (function_names raw.now) (codes "main")))) ≡ Some fault)) }
 {
     let Ok(number) = outline.function(b"main") else {
-        return Err(ScopeFault::plain(alloc, NO_MAIN, 1));
+        return Err(ScopeFault::nameless(alloc, NO_MAIN, 1));
     };
     let Some(function) = raw.get(number.0 as usize) else {
-        return Err(ScopeFault::plain(alloc, NO_MAIN, 1));
+        return Err(ScopeFault::nameless(alloc, NO_MAIN, 1));
     };
     if function.parameters.len() > 0 {
-        return Err(ScopeFault::plain(alloc, NO_MAIN, function.line));
+        return Err(ScopeFault::nameless(alloc, NO_MAIN, function.line));
     }
     Ok(number)
 }

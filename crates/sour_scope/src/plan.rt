@@ -109,7 +109,7 @@ fn job_of(alloc: Global, raw: RawPlanJob, outline: &Outline) -> Result<PlanJob, 
     let line = raw.line;
     match numbered_job(alloc, raw, outline) {
         Ok(job) => Ok(job),
-        Err(Unnumbered::Unknown) => Err(ScopeFault::plain(alloc, UNKNOWN, line)),
+        Err(Unnumbered::Unknown) => Err(ScopeFault::nameless(alloc, UNKNOWN, line)),
         Err(Unnumbered::Memory) => Err(ScopeFault::Memory),
     }
 }

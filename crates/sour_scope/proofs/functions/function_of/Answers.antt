@@ -13,7 +13,7 @@ use Rattle.sour_scope.proofs.functions.function_of.Goals.{then-stands_before-via
 pub returns-then-stands_before-clause-fault : goal.returns-then-stands_before-clause-fault
 returns-then-stands_before-clause-fault g c =
     let P : List (List ℕ) → Type 0 = NamesDiffer in
-    rw (sym c.requires.1.0, sym c.requires.1.1.0, c.plain.ensures)
+    rw (sym c.requires.1.0, sym c.requires.1.1.0, c.nameless.ensures)
     (function_twice g.within.functions c.args.number c.args.raw (λ new differ.
     elim c.then-stands_before.branch [
       | then-stands_before-via-then-stands_before w ↦

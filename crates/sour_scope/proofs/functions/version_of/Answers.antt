@@ -12,7 +12,7 @@ returns-then-stands_before-clause-fault g c =
     let within = g.within in
     let before = sym (version_before within.function c.args.own.now c.requires.1.0 c.args.raw.name c.args.place)
     ∙ sym c.stands_before.ensures ∙ c.if-stands_before.true in
-    rw (sym c.requires.1.1.0, c.plain.ensures)
+    rw (sym c.requires.1.1.0, c.nameless.ensures)
     (version_twice within.functions within.number within.function c.args.place c.args.raw before)
 
 pub returns-then-len-eq0-clause-fault : goal.returns-then-len-eq0-clause-fault
@@ -20,7 +20,7 @@ returns-then-len-eq0-clause-fault g c =
     let within = g.within in
     let new = sym (version_before within.function c.args.own.now c.requires.1.0 c.args.raw.name c.args.place)
     ∙ sym c.stands_before.ensures ∙ c.if-stands_before.false in
-    rw (sym c.requires.1.1.0, c.plain-then-len-eq0.ensures)
+    rw (sym c.requires.1.1.0, c.nameless-then-len-eq0.ensures)
     (version_empty within.functions within.number within.function c.args.place c.args.raw new
     (sym c.len.ensures ∙ c.if-len-eq0.true))
 

@@ -16,4 +16,4 @@ returns-in-Ok-clause-none g c =
 pub returns-in-Err-Unknown-clause-fault : goal.returns-in-Err-Unknown-clause-fault
 returns-in-Err-Unknown-clause-fault g c =
     let unknown = rw c.as_slice.ensures at (c.in-Err-Unknown.ensures.unknown (ap Err c.in-Err-Unknown.field-0-is)) in
-    rw c.plain.ensures (input_wrong c.args.outline.now g.functions c.requires c.args.raw.now unknown)
+    rw c.nameless.ensures (input_wrong c.args.outline.now g.functions c.requires c.args.raw.now unknown)

@@ -2,7 +2,7 @@ use Rattle.std.proofs.Common.{◌≡◌, ◌+◌, true, false, Err, Some, ap, sy
 use Rattle.std.specs.List.{AllByRecursion}
 use Rattle.std.proofs.lemmas.Option.{slice_get_within}
 use Rattle.sour_syntax.specs.Program.{NamesDiffer}
-use Rattle.sour_checked.specs.Fault.{plain, twice}
+use Rattle.sour_checked.specs.Fault.{nameless, twice}
 use Rattle.sour_checked.specs.Numbered.{label_of}
 use Rattle.sour_checked.specs.Parts.{Leave, leaves}
 use Rattle.sour_checked.specs.Texts.{labels}
@@ -26,7 +26,7 @@ stands_before-requires g c =
 pub returns-then-stands_before-clause-fault : goal.returns-then-stands_before-clause-fault
 returns-then-stands_before-clause-fault g c =
     let text = text_of g.within in
-    let fault : first_broken (line_in_order g.within.functions text c.args.place c.args.raw) ≡ Some (plain twice c.args.raw.line) =
+    let fault : first_broken (line_in_order g.within.functions text c.args.place c.args.raw) ≡ Some (nameless twice c.args.raw.line) =
     elim c.then-stands_before.branch [
       | then-stands_before-via-then-stands_before w ↦
           label_first g.within.functions text c.args.place c.args.raw
@@ -36,7 +36,7 @@ returns-then-stands_before-clause-fault g c =
           map_first g.within.functions text c.args.place c.args.raw
           (λ all. let yes = w.in_ok-has_distinct_maps.ensures.1 all in let no = w.if-not-branch.true in absurd (cc))
     ] in
-    rw c.plain.ensures fault
+    rw c.nameless.ensures fault
 
 pub returns-in-Err-Unknown-clause-fault : goal.returns-in-Err-Unknown-clause-fault
 returns-in-Err-Unknown-clause-fault g c =
@@ -49,7 +49,7 @@ returns-in-Err-Unknown-clause-fault g c =
     let own = own_variables text c.args.place c.args.raw c.requires.1.1.0 in
     let known = known_is g.within.functions text c.args.raw.instr c.args.outline.now c.args.own.now c.requires.0 c.requires.1.0 in
     let unknown = c.in-Err-Unknown.ensures.unknown (ap Err c.in-Err-Unknown.field-0-is) in
-    rw c.plain-in-Err-Unknown.ensures
+    rw c.nameless-in-Err-Unknown.ensures
     (unknown_first g.within.functions text c.args.place c.args.raw before maps own (λ there. unknown (known.1 there)))
 
 pub overflow_add-place : goal.overflow_add-place
@@ -67,7 +67,7 @@ returns-then-not-ends-clause-fault g c =
     c.in_ok-has_distinct_maps.ensures.0 c.if-not-branch.false in
     let own = own_variables text c.args.place c.args.raw c.requires.1.1.0 in
     let known = known_is g.within.functions text c.args.raw.instr c.args.outline.now c.args.own.now c.requires.0 c.requires.1.0 in
-    rw c.plain-then-not-ends.ensures
+    rw c.nameless-then-not-ends.ensures
     (end_first g.within.functions text c.args.place c.args.raw before maps own (known.0 c.in-Ok.ensures.known)
     (ends_wrong _ _ _ _ _ c.if-place-count.true c.requires.1.1.1.1.0 c.is_terminator-ends.ensures c.if-not-ends.true))
 

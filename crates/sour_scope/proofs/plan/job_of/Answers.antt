@@ -14,4 +14,4 @@ returns-in-Ok-clause-none g c = job_right c.args.outline.now g.functions c.requi
 pub returns-in-Err-Unknown-clause-fault : goal.returns-in-Err-Unknown-clause-fault
 returns-in-Err-Unknown-clause-fault g c =
     let unknown = c.in-Err-Unknown.ensures.unknown (ap Err c.in-Err-Unknown.field-0-is) in
-    rw c.plain.ensures (job_wrong c.args.outline.now g.functions c.requires c.args.raw unknown)
+    rw c.nameless.ensures (job_wrong c.args.outline.now g.functions c.requires c.args.raw unknown)
