@@ -1,0 +1,2 @@
+pub mod ProgramBundle
+pub mod Entry
