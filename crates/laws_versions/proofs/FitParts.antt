@@ -6,8 +6,8 @@ use Rattle.sour_syntax.specs.declared.literal.FunId.{FunId}
 use Rattle.sour_versions.specs.History.{History, TableRead, read_of, Extends}
 use Rattle.sour_versions.specs.Fits.{FitsFrom, LastFindsAll, FindsAll}
 use Rattle.laws_versions.specs.ReadLaws.{FitsOfParts}
-use Rattle.laws_versions.proofs.Histories.{Extends-length}
-use Rattle.laws_versions.proofs.Histories.{take-extended}
+use Rattle.sour_versions.proofs.Histories.{Extends-length}
+use Rattle.sour_versions.proofs.Histories.{take-extended}
 
 -- what the whole history answered fits it
 fits-one : (least : ℕ) (history : History) (f : FunId) → least ≤ length history

@@ -17,7 +17,7 @@ use Rattle.sour_versions.specs.GoesOn.{GoesOnOver, GoesOnFinding}
 use Rattle.laws_versions.specs.GoesOnLaws.{GoesOnByParts, AdvancesOverAdd}
 use Rattle.laws_versions.proofs.VersionRuns.{version_rests-sum, version_run-add}
 use Rattle.laws_versions.proofs.AnsweredCalls.{calls-version_run, entered_as, alike-run, calls-count, calls-parts}
-use Rattle.laws_versions.proofs.Histories.{Extends-same, Extends-on, Extends-length}
+use Rattle.sour_versions.proofs.Histories.{Extends-same, Extends-on, Extends-length}
 use Rattle.laws_versions.proofs.FitParts.{fits-parts, finds-parts, fits-now, finds-now}
 use Rattle.laws_versions.proofs.Logs.{empty-over, says-after, keeps-after, log_from-append}
 

@@ -6,8 +6,8 @@ use Rattle.sour_semantics.specs.Step.{Entry}
 use Rattle.sour_versions.specs.History.{History, bundles_of, entry_numbered, TableRead, read_of, Extends}
 use Rattle.sour_versions.specs.Fits.{Fits, ReadOver, ListedRead, listed}
 use Rattle.laws_versions.specs.ReadLaws.{IsNumbered, ReadsOfJobs}
-use Rattle.laws_versions.proofs.Histories.{Extends-same, Extends-on, Extends-length, Extends-take}
-use Rattle.laws_versions.proofs.Histories.{take-extended}
+use Rattle.sour_versions.proofs.Histories.{Extends-same, Extends-on, Extends-length, Extends-take}
+use Rattle.sour_versions.proofs.Histories.{take-extended}
 use Rattle.laws_versions.proofs.ReadNumbers.{numbers_tell}
 use Rattle.laws_versions.proofs.FitParts.{fits-parts, fits-extended, finds-parts, fits-now, finds-now}
 

@@ -7,7 +7,6 @@ pub mod ValidVersions
 pub mod VersionRests
 pub mod LawfulAnswers
 pub mod ShownVersions
-pub mod Histories
 pub mod FitParts
 pub mod ReadNumbers
 pub mod JobReads

@@ -13,7 +13,7 @@ use Rattle.sour_versions.specs.CallLog.{Switched, UsedVersion, CallLog, number_a
 use Rattle.sour_versions.specs.Notes.{noted, log_from, empty_log, IsNoted, HasUsed, IsLog}
 use Rattle.sour_versions.specs.GoesOn.{AnswerAlike}
 use Rattle.laws_versions.specs.LogLaws.{NotesAreTrue}
-use Rattle.laws_versions.proofs.Histories.{Extends-take, Extends-whole}
+use Rattle.sour_versions.proofs.Histories.{Extends-take, Extends-whole}
 use Rattle.laws_versions.proofs.UsedVersions.{has-extended, found-noted, noted-stays, noted-active, has-active}
 
 -- the last switch of some and of further ones

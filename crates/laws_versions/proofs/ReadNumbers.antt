@@ -6,7 +6,7 @@ use Rattle.sour_syntax.proofs.Everywhere.{AllByRecursion-weaker}
 use Rattle.sour_versions.specs.History.{History, bundles_of, number_of, entry_numbered, TableRead}
 use Rattle.sour_versions.specs.Fits.{FitsFrom}
 use Rattle.laws_versions.specs.ReadLaws.{IsNumbered, NumbersTell, IsNoOlder, NumbersNeverFall}
-use Rattle.laws_versions.proofs.Histories.{Extends-take, Extends-whole, number-extended, numbered-extended}
+use Rattle.sour_versions.proofs.Histories.{Extends-take, Extends-whole, number-extended, numbered-extended}
 
 -- reads that fit a history are told by their numbers, whatever they begin from
 told-from : (least : ℕ) (history : History) (reads : List TableRead) → FitsFrom least history reads

@@ -14,7 +14,7 @@ use Rattle.laws_versions.specs.ShownLaws.{AnswersAreLawful}
 use Rattle.laws_versions.specs.GoesOnLaws.{CallsFit, RunsSoFar}
 use Rattle.laws_versions.proofs.LawfulAnswers.{lawful_answers, used_are_lawful}
 use Rattle.laws_versions.proofs.ShownVersions.{version_runs_may_show}
-use Rattle.laws_versions.proofs.Histories.{front-extended}
+use Rattle.sour_versions.proofs.Histories.{front-extended}
 use Rattle.laws_versions.proofs.FitParts.{fits-lower}
 use Rattle.laws_versions.proofs.Logs.{IsLogOver, empty-over, log-fits}
 use Rattle.laws_versions.proofs.GoingOn.{log-then, made-count}

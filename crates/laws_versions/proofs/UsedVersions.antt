@@ -11,7 +11,7 @@ use Rattle.sour_versions.specs.History.{History, bundles_of, number_of, entry_or
 use Rattle.sour_versions.specs.History.{Extends}
 use Rattle.sour_versions.specs.CallLog.{UsedVersion, used_as, entry_used}
 use Rattle.sour_versions.specs.Notes.{unless_used, noted_use, IsMade, IsNoted, HasUsed}
-use Rattle.laws_versions.proofs.Histories.{numbered-extended, given-number}
+use Rattle.sour_versions.proofs.Histories.{numbered-extended, given-number}
 
 -- the history has a used version as its function's bundle of that number
 abbrev HasUse : History → UsedVersion → Type 0

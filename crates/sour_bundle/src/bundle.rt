@@ -9,9 +9,9 @@ use std::alloc::Global;
 use std::marker::Model;
 use std::sync::Arc;
 
-/// Bodies that optimisation made for a function of a program, each of which may lead to earlier ones and to
-/// versions of the text. The last is the one that a call enters. Bodies are shared: what makes a bundle out of
-/// another one keeps those that it doesn't change.
+/// Bodies that optimisation made for a function of a program, each of which may lead to earlier
+/// ones and to versions of the text. The last is the one that a call enters. Bodies are shared:
+/// what makes a bundle out of another one keeps those that it doesn't change.
 #[derive(Drop)]
 pub struct Bundle {
     program: Arc<Program>,
@@ -39,7 +39,8 @@ impl Model for Bundle {
 impl Bundle {
     /// The bundle of these bodies. It takes no memory.
     pub fn of_bodies(program: Arc<Program>, function: FunId, bodies: Vec<Arc<Body>>) -> Bundle
-        requires { IsLawful program.value (record { function = function; bodies = map arc_value bodies.items }) }
+        requires { IsLawful program.value
+            (record { function = function; bodies = map arc_value bodies.items }) }
         ensures { result ≡ record {
           program = program.value;
           view = record { function = function; bodies = map arc_value bodies.items };
@@ -74,10 +75,12 @@ impl Bundle {
         &self.program
     }
 
-    /// The function for which it was made, which is one of its program's.
+    /// The function for which it was made, which is one of its program's, and for which it is
+    /// lawful.
     pub fn function(&self) -> FunId
         ensures is { result ≡ self.now.view.function }
         ensures there { result.0 < length self.now.program.functions }
+        ensures lawful { IsLawful self.now.program self.now.view }
     {
         self.function
     }
@@ -99,7 +102,8 @@ impl Bundle {
 
     /// The last body, which a call enters. It is one of the bundle's function.
     pub fn top(&self) -> &Body
-        ensures is { made_body self.now.view.bodies (length self.now.view.bodies) ≡ Some result.now }
+        ensures is { made_body self.now.view.bodies (length self.now.view.bodies)
+            ≡ Some result.now }
         ensures own { result.now.function ≡ self.now.view.function }
     {
         let bodies = self.bodies();

@@ -1,10 +1,11 @@
 -- Histories that grow.
 use Rattle.std.proofs.Common.{◌≡◌, ◌≤◌, ◌<◌, ◌+◌, ◌-◌, ◌++◌, ℕ, zero, suc, Bool, true, false, cond, List, [], ◌∷◌}
-use Rattle.std.proofs.Common.{length, nat_eq}
+use Rattle.std.proofs.Common.{length, nat_eq, add-one}
 use Rattle.std.proofs.Common.{slice_get, take, drop, refl, sym, ap, subst, ◌∙◌, arith}
-use Rattle.std.proofs.lemmas.List.{append-nil, append_assoc, length-append, take-append-drop, take-append-le}
+use Rattle.std.proofs.lemmas.List.{append-nil, append_assoc, length-append, length_push, take-append-drop, take-append-le}
 use Rattle.std.proofs.Math.Seq.{take-add, take-length}
 use Rattle.sour_syntax.specs.declared.literal.FunId.{FunId}
+use Rattle.sour_syntax.proofs.Everywhere.{slice_get-last}
 use Rattle.sour_semantics.specs.State.{BundleView}
 use Rattle.sour_semantics.specs.Step.{bundle}
 use Rattle.sour_versions.specs.History.{History, publish, bundles_of, number_of, entry_or_text, entry_numbered}
@@ -107,3 +108,35 @@ pub given-number : (views : List BundleView) (number : ℕ) (view : BundleView)
     → bundle view ≡ entry_numbered views number → number ≤ length views
 given-number views zero view is = omega arith
 given-number views (suc place) view is = omega (arith, given-found views place view is)
+
+-- one more bundle, which may be one of the function
+cond-behind : (b : Bool) (views : List BundleView) (view : BundleView)
+    → views ++ cond b (view ∷ []) [] ≡ cond b (views ++ view ∷ []) views
+cond-behind true views view = refl
+cond-behind false views view = append-nil views
+
+-- the bundles of a function with one that is published
+pub bundles-publish : (f : FunId) (history : History) (view : BundleView)
+    → bundles_of f (history ++ publish view ∷ [])
+    ≡ cond (nat_eq view.function.0 f.0) (bundles_of f history ++ view ∷ []) (bundles_of f history)
+bundles-publish f history view =
+    bundles-append f history (publish view ∷ [])
+    ∙ cond-behind (nat_eq view.function.0 f.0) (bundles_of f history) view
+
+-- the last bundle has the number of them all
+pub numbered-last : (views : List BundleView) (view : BundleView)
+    → entry_numbered (views ++ view ∷ []) (length (views ++ view ∷ [])) ≡ bundle view
+numbered-last views view =
+    ap (entry_numbered (views ++ view ∷ [])) (length_push views view ∙ add-one (length views))
+    ∙ ap entry_or_text (slice_get-last views view)
+
+few-cond : (b : Bool) (view : BundleView) (views : List BundleView) (count : ℕ) → length views ≤ count
+    → length (cond b (view ∷ views) views) ≤ suc count
+few-cond true view views count few = omega (arith, few)
+few-cond false view views count few = omega (arith, few)
+
+-- a function has no more bundles than the history has entries
+pub number-few : (f : FunId) (history : History) → number_of f history ≤ length history
+number-few f [] = omega arith
+number-few f (publish view ∷ history) =
+    few-cond (nat_eq view.function.0 f.0) view (bundles_of f history) (length history) (number-few f history)
