@@ -19,3 +19,5 @@ pub mod ProgramsChecked
 pub mod ProgramsWritten
 pub mod ProgramsShort
 pub mod ProgramsRead
+pub mod BundlePieces
+pub mod BundleExamples

@@ -116,7 +116,7 @@ module _ (functions : List Function) (are : AreFunctions functions 0 functions)
       there = leads functions are target.code named.body named.found
 
       -- the variables there
-      variables_there : code_variables functions target.code ≡ named.body.variables
+      variables_there : code_variables functions [] target.code ≡ named.body.variables
       variables_there = ap body_variables named.found
 
       -- they have different names
@@ -125,7 +125,7 @@ module _ (functions : List Function) (are : AreFunctions functions 0 functions)
 
       -- and are those of the text
       same_variables : place_variables (names_of functions) (raw_target functions target)
-          ≡ code_variables functions target.code
+          ≡ code_variables functions [] target.code
       same_variables = target_variables functions differ target named.body there ∙ sym variables_there
 
       -- the target of a continuation
@@ -135,9 +135,9 @@ module _ (functions : List Function) (are : AreFunctions functions 0 functions)
       -- a variable there
       result_back : (x : VarId) → x.0 < length named.body.variables
           → number_of (place_variables (names_of functions) (raw_target functions target))
-          (variable_name (code_variables functions target.code) x) ≡ x
+          (variable_name (code_variables functions [] target.code) x) ≡ x
       result_back x within =
-          ap (λ (names : List (List ℕ)). number_of names (variable_name (code_variables functions target.code) x))
+          ap (λ (names : List (List ℕ)). number_of names (variable_name (code_variables functions [] target.code) x))
           (same_variables ∙ variables_there)
           ∙ ap (λ (names : List (List ℕ)). number_of named.body.variables (variable_name names x)) variables_there
           ∙ variable_back named.body.variables differ_there x within
@@ -145,10 +145,10 @@ module _ (functions : List Function) (are : AreFunctions functions 0 functions)
       -- its map
       binds_back : AreKnownIn (length names) (length functions) (bound_values binds)
           → map_of own_functions (place_variables (names_of functions) (raw_target functions target)) names
-          (raw_map functions (code_variables functions target.code) names binds) ≡ binds
+          (raw_map functions (code_variables functions [] target.code) names binds) ≡ binds
       binds_back known =
           ap (λ (others : List (List ℕ)). map_of own_functions others names
-          (raw_map functions (code_variables functions target.code) names binds))
+          (raw_map functions (code_variables functions [] target.code) names binds))
           (same_variables ∙ variables_there)
           ∙ ap (λ (others : List (List ℕ)). map_of own_functions named.body.variables names
           (raw_map functions others names binds)) variables_there

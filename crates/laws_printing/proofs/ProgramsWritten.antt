@@ -186,17 +186,17 @@ module _ (functions : List Function) (are : AreFunctions functions 0 functions) 
 
       -- a variable there
       result_written : (x : VarId) → x.0 < length is.body.variables
-          → IsName (variable_name (code_variables functions target.code) x)
+          → IsName (variable_name (code_variables functions [] target.code) x)
       result_written x within =
-          let same : code_variables functions target.code ≡ is.body.variables = ap body_variables is.found in
+          let same : code_variables functions [] target.code ≡ is.body.variables = ap body_variables is.found in
           subst (λ (others : List (List ℕ)). IsName (variable_name others x)) (sym same)
           (variable_named is.body.variables variables_named x within)
 
       -- its map
       binds_written : AreKnownIn (length names) (length functions) (bound_values binds)
-          → IsWrittenMap (raw_map functions (code_variables functions target.code) names binds)
+          → IsWrittenMap (raw_map functions (code_variables functions [] target.code) names binds)
       binds_written known =
-          let same : code_variables functions target.code ≡ is.body.variables = ap body_variables is.found in
+          let same : code_variables functions [] target.code ≡ is.body.variables = ap body_variables is.found in
           subst (λ (others : List (List ℕ)). IsWrittenMap (raw_map functions others names binds)) (sym same)
           (map_written is.body.variables variables_named binds is.names known)
 

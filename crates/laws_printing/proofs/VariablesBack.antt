@@ -84,14 +84,14 @@ module _ (functions : List Function) (names : List (List ℕ)) where
   names_of_extras [] = refl
   names_of_extras (extra ∷ extras) =
       values (bound_values extra.map) (extras_values extras) _ _
-      (names_of_map (code_variables functions extra.target.code) extra.map) (names_of_extras extras)
+      (names_of_map (code_variables functions [] extra.target.code) extra.map) (names_of_extras extras)
 
   -- those in the maps of an exit
   names_of_exit : (exit : Exit)
       → exit_names (raw_exit functions names exit) ≡ map (variable_name names) (variables_of_each (exit_values exit))
   names_of_exit exit =
       values (bound_values exit.map) (extras_values exit.extras) _ _
-      (names_of_map (code_variables functions exit.target.code) exit.map) (names_of_extras exit.extras)
+      (names_of_map (code_variables functions [] exit.target.code) exit.map) (names_of_extras exit.extras)
 
   -- the names in an instruction are those of the variables that it mentions
   names_of_instr : (i : Instr) → instr_names (raw_instr functions names i) ≡ map (variable_name names) (mentioned i)

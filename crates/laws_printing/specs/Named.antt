@@ -81,9 +81,10 @@ abbrev pub body_variables : Option BodyView → List (List ℕ)
 body_variables None = []
 body_variables (Some body) = body.variables
 
--- the names of the variables of the version that a code names
-abbrev pub code_variables : List Declared → Code → List (List ℕ)
-code_variables functions code = body_variables (named_body functions [] code)
+-- the names of the variables of what a code names among the versions of these functions and these bodies of a bundle;
+-- of a program there are no such bodies
+abbrev pub code_variables : List Declared → List BodyView → Code → List (List ℕ)
+code_variables functions bodies code = body_variables (named_body functions bodies code)
 
 -- a literal, where these are the functions
 abbrev pub raw_literal : List Declared → Literal → RawLiteral
@@ -127,15 +128,15 @@ raw_map functions others names binds = map (raw_bind functions others names) bin
 abbrev pub raw_extra : List Declared → List (List ℕ) → Extra → RawExtra
 raw_extra functions names extra = record {
   target = raw_target functions extra.target;
-  result = variable_name (code_variables functions extra.target.code) extra.result;
-  map = raw_map functions (code_variables functions extra.target.code) names extra.map;
+  result = variable_name (code_variables functions [] extra.target.code) extra.result;
+  map = raw_map functions (code_variables functions [] extra.target.code) names extra.map;
 }
 
 -- an exit, in the same way
 abbrev pub raw_exit : List Declared → List (List ℕ) → Exit → RawExit
 raw_exit functions names exit = record {
   target = raw_target functions exit.target;
-  map = raw_map functions (code_variables functions exit.target.code) names exit.map;
+  map = raw_map functions (code_variables functions [] exit.target.code) names exit.map;
   extras = map (raw_extra functions names) exit.extras;
 }
 

@@ -1,8 +1,10 @@
 //! Laws about the canonical text of functions, and of a program. Each is the contract of a function
 //! that does nothing; the proofs go by the definitions of `sour_lexer`, `sour_raw` and
-//! `sour_checked`, and by the pieces that this crate defines.
+//! `sour_checked`, and by the pieces that this crate defines. `Bundles` defines the text of a
+//! bundle in the same manner.
 #![tactic(auto)]
 
+ghost use Rattle.laws_printing.specs.BundleExamples.{AreBundlesWrittenSo};
 ghost use Rattle.laws_printing.specs.Examples.{AreSpelledSo, IsTextSpelledSo};
 ghost use Rattle.laws_printing.specs.Laws.{BytesAreJoined, PiecesAreTokens, PiecesAreApart, PiecesSpell, ReadsAsItself, ProgramsAreWritten, ProgramsAreShort, ProgramsAreCanonical, ProgramsAreRead, ProgramsAreChecked};
 
@@ -68,4 +70,9 @@ pub fn instructions_are_spelled_so()
 /// job.
 pub fn text_is_spelled_so()
     ensures { IsTextSpelledSo }
+{}
+
+/// The text of a bundle is that of the example.
+pub fn bundles_are_written_so()
+    ensures { AreBundlesWrittenSo }
 {}

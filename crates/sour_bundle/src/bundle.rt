@@ -9,6 +9,18 @@ use std::alloc::Global;
 use std::marker::Model;
 use std::sync::Arc;
 
+/// The body of a bundle with these bodies that has this number, counted from 1; none exactly where
+/// there is none.
+pub fn body_numbered(bodies: &[Arc<Body>], number: u32) -> Option<&Body>
+    ensures { option_copied result ≡ made_body (map arc_value bodies.now) number }
+{
+    if number == 0 {
+        return None;
+    }
+    let body = bodies.get(number as usize - 1)?;
+    Some(body)
+}
+
 /// Bodies that optimisation made for a function of a program, each of which may lead to earlier
 /// ones and to versions of the text. The last is the one that a call enters. Bodies are shared:
 /// what makes a bundle out of another one keeps those that it doesn't change.
@@ -114,10 +126,6 @@ impl Bundle {
     pub fn body(&self, number: u32) -> Option<&Body>
         ensures { option_copied result ≡ made_body self.now.view.bodies number }
     {
-        if number == 0 {
-            return None;
-        }
-        let body = self.bodies().get(number as usize - 1)?;
-        Some(body)
+        body_numbered(self.bodies(), number)
     }
 }

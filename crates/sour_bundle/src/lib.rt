@@ -9,6 +9,6 @@ mod bundle;
 mod entry;
 mod refused;
 
-pub use bundle::Bundle;
+pub use bundle::{Bundle, body_numbered};
 pub use entry::Entry;
 pub use refused::Refused;

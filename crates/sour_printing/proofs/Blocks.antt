@@ -1,10 +1,12 @@
--- The bytes of lines, versions and functions, one after the other.
+-- The bytes of lines, bodies, versions and functions, one after the other.
 use Rattle.std.proofs.Common.{◌≡◌, ◌+◌, ◌≤◌, ℕ, suc, List, [], ◌∷◌, ◌++◌, Option, None, Some, length, map, take, append_assoc, append-nil, refl, sym, ap, ◌∙◌, arith}
 use Rattle.std.specs.List.{slice_get}
-use Rattle.std.proofs.lemmas.List.{take_all, length-take-le}
+use Rattle.std.proofs.lemmas.List.{map-append, take_all, length-take-le}
 use Rattle.std.proofs.lemmas.Option.{slice_get_within}
 use Rattle.sour_syntax.specs.declared.instruction.Line.{Line}
 use Rattle.sour_syntax.specs.declared.program.Function.{Function}
+use Rattle.sour_syntax.specs.BodyView.{BodyView}
+use Rattle.laws_printing.specs.Bundles.{body_lines, bodies_lines}
 use Rattle.laws_printing.specs.Named.{raw_instr, raw_label, raw_lines, raw_version, raw_versions, raw_function, raw_functions}
 use Rattle.laws_printing.specs.Numbered.{version_height, function_height}
 use Rattle.laws_printing.specs.Pieces.{Piece, instr_pieces, labelled_pieces, line_pieces, version_lines, versions_lines, function_lines, functions_lines}
@@ -63,6 +65,70 @@ module _ (functions : List Function) (names : List (List ℕ)) where
       → now ≡ start ++ lines_text number 0 lines
   lines_all lines place start now end so_far number =
       so_far number ∙ ap (λ (some : List Line). start ++ lines_text number 0 some) (take_all place lines end)
+
+-- ---- bundles
+
+module _ {X : Type 0} (f : X → List Piece) where
+  -- the bytes of the lines so far, and of the next
+  pub text_more : (xs : List X) (place : ℕ) (x : X) (start before now : List ℕ) → slice_get xs place ≡ Some x
+      → before ≡ start ++ text_of (map f (take place xs)) → now ≡ before ++ text_of (f x ∷ [])
+      → now ≡ start ++ text_of (map f (take (place + 1) xs))
+  text_more xs place x start before now at so_far put =
+      put ∙ ap (λ (bytes : List ℕ). bytes ++ text_of (f x ∷ [])) so_far
+      ∙ append_assoc start (text_of (map f (take place xs))) (text_of (f x ∷ []))
+      ∙ ap (λ (bytes : List ℕ). start ++ bytes)
+      (sym (ap text_of (ap (map f) (take_more xs place x at) ∙ map-append f (take place xs) (x ∷ []))
+      ∙ joined_text (map f (take place xs)) (f x ∷ [])))
+
+  -- all of the lines
+  pub text_all : (xs : List X) (place : ℕ) (start now : List ℕ) → length xs ≤ place
+      → now ≡ start ++ text_of (map f (take place xs)) → now ≡ start ++ text_of (map f xs)
+  text_all xs place start now end so_far =
+      so_far ∙ ap (λ (some : List X). start ++ text_of (map f some)) (take_all place xs end)
+
+module _ (functions : List Function) (bodies : List BodyView) where
+  -- the bytes of some bodies, the first of which has this number
+  abbrev pub bodies_text : ℕ → List BodyView → List ℕ
+  bodies_text number some = text_of (bodies_lines functions bodies number some)
+
+  -- one more body
+  bodies_push : (number place : ℕ) (front : List BodyView) (body : BodyView) → place ≡ number + length front
+      → bodies_text number (front ++ body ∷ [])
+      ≡ bodies_text number front ++ text_of (body_lines functions bodies place body)
+  bodies_push number place [] body is =
+      let here : number ≡ place = omega (arith, is) in
+      ap text_of (append-nil (body_lines functions bodies number body))
+      ∙ ap (λ n. text_of (body_lines functions bodies n body)) here
+  bodies_push number place (first ∷ front) body is =
+      let own : List (List Piece) = body_lines functions bodies number first in
+      joined_text own (bodies_lines functions bodies (number + 1) (front ++ body ∷ []))
+      ∙ ap (λ (bytes : List ℕ). text_of own ++ bytes) (bodies_push (number + 1) place front body (omega (arith, is)))
+      ∙ sym (append_assoc (text_of own) (bodies_text (number + 1) front)
+      (text_of (body_lines functions bodies place body)))
+      ∙ ap (λ (bytes : List ℕ). bytes ++ text_of (body_lines functions bodies place body))
+      (sym (joined_text own (bodies_lines functions bodies (number + 1) front)))
+
+  -- the bytes of the bodies so far, and of the next
+  pub bodies_more : (some : List BodyView) (place : ℕ) (body : BodyView) (start before now : List ℕ)
+      → slice_get some place ≡ Some body → before ≡ start ++ bodies_text 1 (take place some)
+      → now ≡ before ++ text_of (body_lines functions bodies (place + 1) body)
+      → now ≡ start ++ bodies_text 1 (take (place + 1) some)
+  bodies_more some place body start before now at so_far put =
+      let within = slice_get_within some place body at in
+      let here : place + 1 ≡ 1 + length (take place some) =
+      omega (arith, length-take-le place some (omega (arith, within))) in
+      let own : List ℕ = text_of (body_lines functions bodies (place + 1) body) in
+      put ∙ ap (λ (bytes : List ℕ). bytes ++ own) so_far
+      ∙ append_assoc start (bodies_text 1 (take place some)) own
+      ∙ ap (λ (bytes : List ℕ). start ++ bytes)
+      (sym (bodies_push 1 (place + 1) (take place some) body here)
+      ∙ ap (bodies_text 1) (sym (take_more some place body at)))
+
+  -- all of the bodies
+  pub bodies_all : (some : List BodyView) (place : ℕ) (start now : List ℕ) → length some ≤ place
+      → now ≡ start ++ bodies_text 1 (take place some) → now ≡ start ++ bodies_text 1 some
+  bodies_all some place start now end so_far =
+      so_far ∙ ap (λ (them : List BodyView). start ++ bodies_text 1 them) (take_all place some end)
 
 -- ---- versions and functions
 

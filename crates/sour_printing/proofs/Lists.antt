@@ -1,12 +1,13 @@
 -- The bytes of a list, item by item.
-use Rattle.std.proofs.Common.{◌≡◌, ◌+◌, ◌<◌, ◌≤◌, ℕ, false, List, [], ◌∷◌, ◌++◌, Some, length, map, take, append_assoc, append-nil, sym, ap, ◌∙◌, arith}
+use Rattle.std.proofs.Common.{◌≡◌, ◌+◌, ◌<◌, ◌≤◌, ℕ, false, List, [], ◌∷◌, ◌++◌, Some, length, map, take, append_assoc, append-nil, refl, sym, ap, ◌∙◌, arith}
 use Rattle.std.specs.Prelude.{nat_eq}
 use Rattle.std.specs.List.{slice_get}
-use Rattle.std.proofs.lemmas.List.{map-append, take_all, length-take-le}
+use Rattle.std.proofs.lemmas.List.{take_all, length-take-le}
 use Rattle.std.proofs.lemmas.Option.{slice_get_within, get_or_from_slice_get}
 use Rattle.sour_syntax.proofs.Everywhere.{take_next}
 use Rattle.sour_raw.specs.declared.raw.RawExpr.{RawExpr}
-use Rattle.laws_printing.specs.Pieces.{Piece, Blank, expr_pieces, parameter_pieces, predicates_pieces, others_pieces, listed_pieces}
+use Rattle.sour_raw.specs.Lexemes.{comma}
+use Rattle.laws_printing.specs.Pieces.{Piece, Token, Blank, expr_pieces, parameter_pieces, predicates_pieces, others_pieces, listed_pieces}
 use Rattle.laws_printing.specs.Text.{bytes_of}
 use Rattle.laws_printing.proofs.Joined.{joined_bytes}
 
@@ -27,23 +28,42 @@ pub take_more : {X : Type 0} (xs : List X) (place : ℕ) (x : X) → slice_get x
 take_more xs place x at =
     take_next xs place x (slice_get_within xs place x at) (sym (get_or_from_slice_get xs place x x at))
 
-module _ {X Y : Type 0} (P : Y → List Piece) (f : X → Y) where
+module _ {X : Type 0} (P : X → List Piece) where
   -- the bytes of others so far, a comma and a blank, and the next
+  pub others_next : (xs : List X) (place : ℕ) (x : X) (start before between now : List ℕ) → slice_get xs place ≡ Some x
+      → before ≡ start ++ bytes_of (others_pieces P (take place xs)) → between ≡ before ++ 44 ∷ 32 ∷ []
+      → now ≡ between ++ bytes_of (P x) → now ≡ start ++ bytes_of (others_pieces P (take (place + 1) xs))
+  others_next xs place x start before between now at so_far comma put =
+      put ∙ ap (λ (bytes : List ℕ). bytes ++ bytes_of (P x)) comma
+      ∙ append_assoc before (44 ∷ 32 ∷ []) (bytes_of (P x))
+      ∙ ap (λ (bytes : List ℕ). bytes ++ 44 ∷ 32 ∷ bytes_of (P x)) so_far
+      ∙ append_assoc start (bytes_of (others_pieces P (take place xs))) (44 ∷ 32 ∷ bytes_of (P x))
+      ∙ ap (λ (bytes : List ℕ). start ++ bytes)
+      (sym (others_push P (take place xs) x)
+      ∙ ap (λ (some : List X). bytes_of (others_pieces P some)) (sym (take_more xs place x at)))
+
+  -- all of the others
+  pub others_end : (xs : List X) (place : ℕ) (start now : List ℕ) → length xs ≤ place
+      → now ≡ start ++ bytes_of (others_pieces P (take place xs)) → now ≡ start ++ bytes_of (others_pieces P xs)
+  others_end xs place start now end so_far =
+      so_far ∙ ap (λ (some : List X). start ++ bytes_of (others_pieces P some)) (take_all place xs end)
+
+module _ {X Y : Type 0} (P : Y → List Piece) (f : X → Y) where
+  others-mapped : (xs : List X) → others_pieces P (map f xs) ≡ others_pieces (λ x. P (f x)) xs
+  others-mapped [] = refl
+  others-mapped (x ∷ xs) = ap (λ (pieces : List Piece). Token comma ∷ Blank ∷ (P (f x) ++ pieces)) (others-mapped xs)
+
+  -- the same for others that are named
   pub others_more : (xs : List X) (place : ℕ) (x : X) (start before between now : List ℕ) → slice_get xs place ≡ Some x
       → before ≡ start ++ bytes_of (others_pieces P (map f (take place xs))) → between ≡ before ++ 44 ∷ 32 ∷ []
       → now ≡ between ++ bytes_of (P (f x)) → now ≡ start ++ bytes_of (others_pieces P (map f (take (place + 1) xs)))
   others_more xs place x start before between now at so_far comma put =
-      put ∙ ap (λ (bytes : List ℕ). bytes ++ bytes_of (P (f x))) comma
-      ∙ append_assoc before (44 ∷ 32 ∷ []) (bytes_of (P (f x)))
-      ∙ ap (λ (bytes : List ℕ). bytes ++ 44 ∷ 32 ∷ bytes_of (P (f x))) so_far
-      ∙ append_assoc start (bytes_of (others_pieces P (map f (take place xs)))) (44 ∷ 32 ∷ bytes_of (P (f x)))
-      ∙ ap (λ (bytes : List ℕ). start ++ bytes)
-      (sym (others_push P (map f (take place xs)) (f x))
-      ∙ ap (λ (ys : List Y). bytes_of (others_pieces P ys))
-      (sym (ap (map f) (take_more xs place x at) ∙ map-append f (take place xs) (x ∷ []))))
+      others_next (λ one. P (f one)) xs place x start before between now at
+      (so_far ∙ ap (λ (pieces : List Piece). start ++ bytes_of pieces) (others-mapped (take place xs))) comma put
+      ∙ ap (λ (pieces : List Piece). start ++ bytes_of pieces) (sym (others-mapped (take (place + 1) xs)))
 
-  -- all of the others
-  pub others_all : (xs : List X) (place : ℕ) (start now : List ℕ) → length xs ≤ place
+  -- and for all of them
+  others_all : (xs : List X) (place : ℕ) (start now : List ℕ) → length xs ≤ place
       → now ≡ start ++ bytes_of (others_pieces P (map f (take place xs)))
       → now ≡ start ++ bytes_of (others_pieces P (map f xs))
   others_all xs place start now end so_far =

@@ -1,15 +1,18 @@
 //! Instructions.
 
 ghost use Rattle.std.specs.Prelude.{◌≡◌, [], ◌∷◌, ◌++◌, map, codes, OnOk};
+ghost use Rattle.std.specs.Arc.{arc_value};
 ghost use Rattle.laws_printing.specs.Named.{variable_name, raw_simple, raw_expr, raw_exit, raw_instr};
 ghost use Rattle.laws_printing.specs.Pieces.{expr_pieces, simple_pieces, listed_pieces, predicates_pieces, exit_pieces, instr_pieces};
+ghost use Rattle.laws_printing.specs.Bundles.{made_instr_pieces};
 ghost use Rattle.laws_printing.specs.Text.{bytes_of};
 
 use crate::exits::put_exit;
 use crate::expressions::{put_expr, put_exprs, put_simple};
 use crate::names::variable_name;
-use sour_syntax::{Exit, Expr, Function, Instr, Label, Names, Simple, VarId};
+use sour_syntax::{Body, Exit, Expr, Function, Instr, Label, Names, Simple, VarId};
 use std::alloc::AllocError;
+use std::sync::Arc;
 
 /// Puts a word, and a variable behind it.
 fn put_word(text: &mut Vec<u8>, names: &Names, word: &[u8], x: VarId) -> Result<(), AllocError>
@@ -154,29 +157,31 @@ fn put_predicates(
 fn put_assume(
     text: &mut Vec<u8>,
     functions: &[Function],
+    bodies: &[Arc<Body>],
     names: &Names,
     predicates: &[Expr],
     exit: &Exit,
 ) -> Result<(), AllocError>
     ensures { OnOk result (text.new.items ≡ text.old.items
-        ++ bytes_of (instr_pieces
-        (raw_instr functions.now names.now (Instr.Assume predicates.now exit.now)))) }
+        ++ bytes_of (made_instr_pieces functions.now (map arc_value bodies.now) names.now
+        (Instr.Assume predicates.now exit.now))) }
 {
     text.extend_from_slice(b"assume ")?;
     put_predicates(text, functions, names, predicates)?;
     text.extend_from_slice(b"else ")?;
-    put_exit(text, functions, names, exit)
+    put_exit(text, functions, bodies, names, exit)
 }
 
-/// Puts an instruction.
+/// Puts an instruction of a body of a bundle with these bodies; of a program where there are none.
 pub(crate) fn put_instr(
     text: &mut Vec<u8>,
     functions: &[Function],
+    bodies: &[Arc<Body>],
     names: &Names,
     instr: &Instr,
 ) -> Result<(), AllocError>
-    ensures { OnOk result (text.new.items ≡ text.old.items
-        ++ bytes_of (instr_pieces (raw_instr functions.now names.now instr.now))) }
+    ensures { OnOk result (text.new.items ≡ text.old.items ++ bytes_of
+        (made_instr_pieces functions.now (map arc_value bodies.now) names.now instr.now)) }
 {
     match instr {
         Instr::Var(x, value) => put_set(text, functions, names, b"var ", *x, b" = ", *value),
@@ -203,7 +208,7 @@ pub(crate) fn put_instr(
         Instr::Return(value) => put_value(text, functions, names, b"return ", *value),
         Instr::Stop => text.extend_from_slice(b"stop"),
         Instr::Assume(predicates, exit) => {
-            put_assume(text, functions, names, predicates.as_slice(), exit)
+            put_assume(text, functions, bodies, names, predicates.as_slice(), exit)
         }
     }
 }

@@ -48,7 +48,7 @@ fn put_line(
         (instr_pieces (raw_instr functions.now names.now line.now.instr)) ∷ [])) }
 {
     put_label(text, place, &line.label)?;
-    put_instr(text, functions, names, &line.instr)?;
+    put_instr(text, functions, &[], names, &line.instr)?;
     text.extend_from_slice(b"\n")
 }
 
