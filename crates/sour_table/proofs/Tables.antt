@@ -54,7 +54,8 @@ module _ (program : ProgramView) (before : History) (view : BundleView) where
       }
 
 module _ (program : ProgramView) (entries : List HistoryEntry) (active : List Active)
-    (is : IsTable program entries active) (f : FunId) (kept : Active) (within : f.0 < length program.functions) (at : kept ≡ get_or active f.0 kept) where
+    (is : IsTable program entries active) (f : FunId) (kept : Active)
+    (within : f.0 < length program.functions) (at : kept ≡ get_or active f.0 kept) where
   -- what stands at the place of a function is its active version
   pub active_there : IsActive program (map published entries) f kept
   active_there = is.each f kept (slice_get_read active (length program.functions) f.0 kept (sym is.count) within at)
@@ -92,7 +93,8 @@ active_text program history f kept is none =
 
 -- when a bundle is published for its function, another version is kept for that function
 module _ (program : ProgramView) (entries : List HistoryEntry) (active : List Active)
-    (is : IsTable program entries active) (entry : HistoryEntry) (view : BundleView) (f : FunId) (old new : Active)
+    (is : IsTable program entries active)
+    (entry : HistoryEntry) (view : BundleView) (f : FunId) (old new : Active)
     (of_view : published entry ≡ publish view) (function : f ≡ view.function)
     (within : f.0 < length program.functions) (at : old ≡ get_or active f.0 old)
     (next : new.number ≡ suc old.number) (made : entry_of new.entry ≡ step.bundle view)
